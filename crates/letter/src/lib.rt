@@ -1,0 +1,4 @@
+// Letters: a planner's changes to train paths, as bytes.
+mod letter;
+
+pub use letter::Letter;
