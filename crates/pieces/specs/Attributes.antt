@@ -1,0 +1,44 @@
+-- The tag of a range: its two numbers as attributes, Upper first.
+use mathlib.Core.Bool.{cond}
+use mathlib.Core.List.{List, [], _∷_, _++_}
+use Prim.Native.Nat.{ℕ, suc}
+use lib.Chars.{codes}
+use lib.Dec.{eqb}
+use lib.ListN.{length, take, drop}
+use Rattle.std.specs.Options.{mapped}
+use Rattle.std.specs.Written.{decimal}
+use Rattle.std.specs.declared.option.Option.{Option}
+use Rattle.std.specs.declared.option.Option.the-variants.{Some, None}
+use Rattle.frame.specs.declared.range.Range.{Range}
+use Rattle.pieces.specs.Numbers.{digit, plain}
+use Rattle.pieces.specs.Strips.{strip-of, then}
+
+abbrev pub range-opens : List ℕ
+range-opens = codes "<wsrm:AcknowledgementRange Upper=\""
+
+abbrev pub range-between : List ℕ
+range-between = codes "\" Lower=\""
+
+abbrev pub range-closes : List ℕ
+range-closes = codes "\"/>"
+
+unfoldable pub range-text : Range → List ℕ
+range-text x = range-opens ++ (decimal (x .upper) ++ (range-between ++ (decimal (x .lower) ++ range-closes)))
+
+-- how many digits come first
+abbrev pub digits-len : List ℕ → ℕ
+digits-len [] = 0
+digits-len (c ∷ cs) = cond (digit c) (suc (digits-len cs)) 0
+
+-- the number that stands first, and what comes after it
+unfoldable pub field-of : List ℕ → Option (ℕ × List ℕ)
+field-of p = mapped (λ n. (n, drop (digits-len p) p)) (plain (take (digits-len p) p))
+
+abbrev pub range-end : Range → List ℕ → Option Range
+range-end x end = cond (eqb (length end) 0) (Some x) None
+
+unfoldable pub range-read : List ℕ → Option Range
+range-read p =
+    then (strip-of range-opens p) (λ a. then (field-of a) (λ u.
+      then (strip-of range-between (u .1)) (λ b. then (field-of b) (λ l.
+        then (strip-of range-closes (l .1)) (range-end (record { lower = l .0; upper = u .0 }))))))
