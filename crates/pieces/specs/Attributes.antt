@@ -1,7 +1,7 @@
 -- The tag of a range: its two numbers as attributes, Upper first.
 use mathlib.Core.Bool.{cond}
 use mathlib.Core.List.{List, [], _∷_, _++_}
-use Prim.Native.Nat.{ℕ, suc}
+use Prim.Native.Nat.{ℕ}
 use lib.Chars.{codes}
 use lib.Dec.{eqb}
 use lib.ListN.{length, take, drop}
@@ -10,7 +10,8 @@ use Rattle.std.specs.Written.{decimal}
 use Rattle.std.specs.declared.option.Option.{Option}
 use Rattle.std.specs.declared.option.Option.the-variants.{Some, None}
 use Rattle.frame.specs.declared.range.Range.{Range}
-use Rattle.pieces.specs.Numbers.{digit, plain}
+use Rattle.pieces.specs.Cuts.{before}
+use Rattle.pieces.specs.Numbers.{plain}
 use Rattle.pieces.specs.Strips.{strip-of, then}
 
 abbrev pub range-opens : List ℕ
@@ -25,14 +26,9 @@ range-closes = codes "\"/>"
 unfoldable pub range-text : Range → List ℕ
 range-text x = range-opens ++ (decimal (x .upper) ++ (range-between ++ (decimal (x .lower) ++ range-closes)))
 
--- how many digits come first
-abbrev pub digits-len : List ℕ → ℕ
-digits-len [] = 0
-digits-len (c ∷ cs) = cond (digit c) (suc (digits-len cs)) 0
-
--- the number that stands first, and what comes after it
+-- the number that stands before the next quote, and what comes after it
 unfoldable pub field-of : List ℕ → Option (ℕ × List ℕ)
-field-of p = mapped (λ n. (n, drop (digits-len p) p)) (plain (take (digits-len p) p))
+field-of p = mapped (λ n. (n, drop (before 34 p) p)) (plain (take (before 34 p) p))
 
 abbrev pub range-end : Range → List ℕ → Option Range
 range-end x end = cond (eqb (length end) 0) (Some x) None

@@ -1,22 +1,17 @@
 -- A text as a row of pieces: a tag from `<` through the next `>` (or the end), or the text up to the next `<`.
 use mathlib.Core.Bool.{Bool, cond, _&&_}
 use mathlib.Core.List.{List, [], _∷_}
-use Prim.Native.Nat.{ℕ, suc, _-_}
+use Prim.Native.Nat.{ℕ, suc, min, _+_, _-_}
 use lib.Dec.{eqb, leb}
 use lib.ListN.{length, getD, take, drop}
 
--- how many bytes come up to and with the first `>`, or all
-abbrev pub tag-len : List ℕ → ℕ
-tag-len [] = 0
-tag-len (c ∷ cs) = cond (eqb c 62) 1 (suc (tag-len cs))
-
--- how many bytes come before the first `<`, or all
-abbrev pub text-len : List ℕ → ℕ
-text-len [] = 0
-text-len (c ∷ cs) = cond (eqb c 60) 0 (suc (text-len cs))
+-- how many bytes come before the first b, or all
+abbrev pub before : ℕ → List ℕ → ℕ
+before b [] = 0
+before b (c ∷ cs) = cond (eqb c b) 0 (suc (before b cs))
 
 abbrev pub piece-len : List ℕ → ℕ
-piece-len bs = cond (eqb (getD bs 0 0) 60) (tag-len bs) (text-len bs)
+piece-len bs = cond (eqb (getD bs 0 0) 60) (min (before 62 bs + 1) (length bs)) (before 60 bs)
 
 -- the first piece, and what comes after it
 abbrev pub piece : List ℕ → List ℕ

@@ -14,7 +14,7 @@ digit c = leb 48 c && leb c 57
 abbrev pub read-on : ℕ → List ℕ → Option ℕ
 read-on n [] = Some n
 read-on n (c ∷ cs) =
-    cond (digit c && leb (n * 10 + (c - 48)) (2 ^ 64 - 1)) (read-on (n * 10 + (c - 48)) cs) None
+    cond (digit c && ltb (n * 10 + (c - 48)) (2 ^ 64)) (read-on (n * 10 + (c - 48)) cs) None
 
 abbrev pub plain : List ℕ → Option ℕ
 plain ds = cond (ltb 48 (getD ds 0 0)) (read-on 0 ds) None

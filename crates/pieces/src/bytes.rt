@@ -1,8 +1,10 @@
 // Looking at bytes.
 ghost use mathlib.Core.Path.{_≡_};
-ghost use lib.ListN.{getD};
+ghost use Prim.Native.Nat.{_≤_};
+ghost use lib.ListN.{length, getD};
 ghost use Rattle.std.specs.Options.{mapped};
 ghost use Rattle.std.specs.shelf.Text.{sameBytes};
+ghost use Rattle.pieces.specs.Cuts.{before};
 ghost use Rattle.pieces.specs.Strips.{strip-of};
 
 // The byte at `i`, or 0 past the end.
@@ -10,6 +12,19 @@ pub(crate) fn byte_at(bytes: &[u8], i: usize) -> u8
     ensures { λ r. ⌜ r ≡ getD (now (bytes .entry)) i 0 ⌝ }
 {
     if i < bytes.len() { bytes[i] } else { 0 }
+}
+
+// How many bytes come before the first `b`, or all.
+pub(crate) fn find(bytes: &[u8], b: u8) -> usize
+    ensures value { λ r. ⌜ r ≡ before b (now (bytes .entry)) ⌝ }
+    ensures bound { λ r. ⌜ r ≤ length (now (bytes .entry)) ⌝ }
+{
+    for (i, x) in bytes.iter().enumerate() {
+        if *x == b {
+            return i;
+        }
+    }
+    bytes.len()
 }
 
 pub(crate) fn same(a: &[u8], b: &[u8]) -> bool

@@ -2,45 +2,20 @@
 ghost use mathlib.Core.Path.{_≡_};
 ghost use Prim.Native.Nat.{_≤_};
 ghost use lib.ListN.{length};
-ghost use Rattle.pieces.specs.Cuts.{tag-len, text-len, piece-len, ends-empty, shape};
+ghost use Rattle.pieces.specs.Cuts.{piece-len, ends-empty, shape};
 ghost use Rattle.pieces.specs.Tokens.{part-of, shape-of, Lexes};
 use crate::bytes::byte_at;
+use crate::bytes::find;
 use crate::fault::ReadFault;
 use crate::token::Lexed;
 use crate::token::Token;
-
-// How many bytes come up to and with the first `>`, or all.
-fn tag_len(bytes: &[u8]) -> usize
-    ensures value { λ r. ⌜ r ≡ tag-len (now (bytes .entry)) ⌝ }
-    ensures bound { λ r. ⌜ r ≤ length (now (bytes .entry)) ⌝ }
-{
-    for (i, b) in bytes.iter().enumerate() {
-        if *b == b'>' {
-            return i + 1;
-        }
-    }
-    bytes.len()
-}
-
-// How many bytes come before the first `<`, or all.
-fn text_len(bytes: &[u8]) -> usize
-    ensures value { λ r. ⌜ r ≡ text-len (now (bytes .entry)) ⌝ }
-    ensures bound { λ r. ⌜ r ≤ length (now (bytes .entry)) ⌝ }
-{
-    for (i, b) in bytes.iter().enumerate() {
-        if *b == b'<' {
-            return i;
-        }
-    }
-    bytes.len()
-}
 
 // How many bytes the first piece has.
 fn piece_len(bytes: &[u8]) -> usize
     ensures value { λ r. ⌜ r ≡ piece-len (now (bytes .entry)) ⌝ }
     ensures bound { λ r. ⌜ r ≤ length (now (bytes .entry)) ⌝ }
 {
-    if byte_at(bytes, 0) == b'<' { tag_len(bytes) } else { text_len(bytes) }
+    if byte_at(bytes, 0) == b'<' { (find(bytes, b'>') + 1).min(bytes.len()) } else { find(bytes, b'<') }
 }
 
 // Whether the part ends in `/>`.

@@ -1,6 +1,6 @@
 // The names that stand in the text of frames.
 ghost use mathlib.Core.Path.{_≡_};
-ghost use Rattle.pieces.specs.Names.{element-name, element-spelling, fault-name, fault-spelling};
+ghost use Rattle.pieces.specs.Names.{element-name, fault-name};
 
 // The elements, but for AcknowledgementRange, which has attributes.
 #[derive(Clone, Copy)]
@@ -29,12 +29,6 @@ pub enum Element {
 impl Element {
     pub fn name(self) -> &'static [u8]
         ensures { λ r. ⌜ now r ≡ element-name self ⌝ }
-    {
-        self.spelling()
-    }
-
-    fn spelling(self) -> &'static [u8]
-        ensures { λ r. ⌜ now r ≡ element-spelling self ⌝ }
     {
         match self {
             Element::CreateSequence => b"wsrm:CreateSequence",
@@ -72,12 +66,6 @@ pub enum FaultCode {
 impl FaultCode {
     pub fn name(self) -> &'static [u8]
         ensures { λ r. ⌜ now r ≡ fault-name self ⌝ }
-    {
-        self.spelling()
-    }
-
-    fn spelling(self) -> &'static [u8]
-        ensures { λ r. ⌜ now r ≡ fault-spelling self ⌝ }
     {
         match self {
             FaultCode::UnknownSequence => b"wsrm:UnknownSequence",

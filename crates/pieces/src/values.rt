@@ -10,7 +10,7 @@ use frame::Identifier;
 use frame::Number;
 
 // The identifier whose text this is.
-pub fn identifier(text: &[u8]) -> Option<Identifier>
+pub fn read_identifier(text: &[u8]) -> Option<Identifier>
     ensures { λ r. ⌜ mapped (λ i. i .value) r ≡ identifier-read (now (text .entry)) ⌝ }
 {
     let digits = strip(text, b"urn:path:")?;
@@ -18,14 +18,14 @@ pub fn identifier(text: &[u8]) -> Option<Identifier>
 }
 
 // The message number or credit whose text this is.
-pub fn number(text: &[u8]) -> Option<Number>
+pub fn read_number(text: &[u8]) -> Option<Number>
     ensures { λ r. ⌜ mapped (λ n. n .value) r ≡ number-read (now (text .entry)) ⌝ }
 {
     Number::new(decimal(text)?)
 }
 
 // The fault whose name this is.
-pub fn fault_code(text: &[u8]) -> Option<FaultCode>
+pub fn read_fault_code(text: &[u8]) -> Option<FaultCode>
     ensures { λ r. ⌜ r ≡ fault-code-read (now (text .entry)) ⌝ }
 {
     if same(text, FaultCode::UnknownSequence.name()) {
