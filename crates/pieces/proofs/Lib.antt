@@ -7,3 +7,4 @@ pub mod Readings
 pub mod Attributes
 pub mod Letters
 pub mod Pairs
+pub mod TagPieces
