@@ -1,4 +1,16 @@
 // Letters: a planner's changes to train paths, as bytes.
+mod change;
+mod decoding;
+mod encoding;
 mod letter;
+mod refusal;
 
+pub use change::Change;
+pub use change::Path;
+pub use decoding::decode;
+pub use encoding::encode_put;
+pub use encoding::encode_withdrawal;
+pub use encoding::withdrawal;
 pub use letter::Letter;
+pub use letter::MOST;
+pub use refusal::LetterRefusal;
