@@ -12,5 +12,5 @@ pub use encoding::encode_put;
 pub use encoding::encode_withdrawal;
 pub use encoding::withdrawal;
 pub use letter::Letter;
-pub use letter::MOST;
+pub use letter::is_letter;
 pub use refusal::LetterRefusal;
