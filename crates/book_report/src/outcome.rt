@@ -28,12 +28,8 @@ pub enum Outcome {
 
 // Hands the letter that the line writes to the book.
 pub fn handle(heap: Global, book: &mut Book, line: &[u8]) -> Result<Outcome, AllocError>
-    ensures value {
-        λ r. ⌜ Cases r (λ o. o ≡ outcome-of (book-page (now (book .entry))) (parsed (now (line .entry)))) (λ _. Unit {0}) ⌝
-    }
-    ensures after {
-        λ r. ⌜ Cases r (λ _. book-page (now (book .exit)) ≡ page-left (book-page (now (book .entry))) (parsed (now (line .entry)))) (λ _. now (book .exit) ≡ now (book .entry)) ⌝
-    }
+    ensures value { λ r. ⌜ Cases r (λ o. o ≡ outcome-of (book-page (now (book .entry))) (parsed (now (line .entry)))) (λ _. Unit {0}) ⌝ }
+    ensures after { λ r. ⌜ Cases r (λ _. book-page (now (book .exit)) ≡ page-left (book-page (now (book .entry))) (parsed (now (line .entry)))) (λ _. now (book .exit) ≡ now (book .entry)) ⌝ }
 {
     let Some(bytes) = hex::parse(heap, line)? else {
         return Ok(Outcome::NotHex);

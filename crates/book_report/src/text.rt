@@ -10,10 +10,25 @@ pub impl fmt::Display for Outcome as OutcomeDisplay {
 
     fn fmt<W: fmt::Write>(&self, f: &mut fmt::Formatter<W>) -> fmt::Result {
         match self {
-            Outcome::Done(Change::Put(Path { train, section, enter, leave })) => {
-                write!(f, "put train={train} section={section} enter={enter} leave={leave}")
+            Outcome::Done(
+                Change::Put(
+                    Path {
+                        train,
+                        section,
+                        enter,
+                        leave,
+                    },
+                ),
+            ) => {
+                write!(
+                    f,
+                    "put train={train} section={section} enter={enter} leave={leave}"
+                )
             }
-            Outcome::Done(Change::Withdrawal { train, section }) => write!(f, "withdrawal train={train} section={section}"),
+            Outcome::Done(Change::Withdrawal { train, section }) => write!(
+                f,
+                "withdrawal train={train} section={section}"
+            ),
             Outcome::Spoilt => write!(f, "spoilt"),
             Outcome::Refused => write!(f, "refused"),
             Outcome::NotHex => write!(f, "error hex"),
@@ -29,7 +44,12 @@ pub impl fmt::Display for PathLine as PathLineDisplay {
     ghost shown = { λ l. Some (path-text (l .0)) };
 
     fn fmt<W: fmt::Write>(&self, f: &mut fmt::Formatter<W>) -> fmt::Result {
-        let Path { train, section, enter, leave } = self.0;
+        let Path {
+            train,
+            section,
+            enter,
+            leave,
+        } = self.0;
         write!(f, "path {train} {section} {enter} {leave}")
     }
 }

@@ -1,5 +1,5 @@
 // A train's passage through a section: it enters and leaves at these seconds of the plan.
-#[derive(Clone, Copy, PartialEq, Eq, Debug)]
+#[derive(Clone, Copy)]
 pub struct Path {
     pub train: u32,
     pub section: u16,
@@ -8,7 +8,7 @@ pub struct Path {
 }
 
 // What a letter asks of whoever keeps the paths: one path at most for each train and section.
-#[derive(Clone, Copy, PartialEq, Eq, Debug)]
+#[derive(Clone, Copy)]
 pub enum Change {
     // Keep this path, in place of any other of its train and section.
     Put(Path),

@@ -14,3 +14,5 @@ pub use encoding::withdrawal;
 pub use letter::Letter;
 pub use letter::is_letter;
 pub use refusal::LetterRefusal;
+pub use refusal::LetterRefusalDebug;
+pub use refusal::LetterRefusalPartialEq;

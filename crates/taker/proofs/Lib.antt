@@ -5,3 +5,4 @@ pub mod Orders
 pub mod Edits
 pub mod Pages
 pub mod Laws
+pub mod LastWords

@@ -51,7 +51,7 @@ ascending-put-by p q qs false true e f a s h = and-from _ _ (after-from p q qs e
 ascending-put-by p q qs false false e f a s h =
     and-from _ _ (and-from _ _ (after p q e f) (after-from p q qs e a)) (and-from _ _ a s)
 
-ascending-put : (p : Path) (ps : List Path) → ascending ps ≡ true → ascending (put p ps) ≡ true
+pub ascending-put : (p : Path) (ps : List Path) → ascending ps ≡ true → ascending (put p ps) ≡ true
 ascending-put p [] a = refl
 ascending-put p (q ∷ qs) a =
     let h = and-parts _ _ a in ascending-put-by p q qs _ _ refl refl (h .0) (h .1) (ascending-put p qs (h .1))

@@ -1,9 +1,10 @@
 -- What a letter does to the book, in the book's own words: which path is held for which train and section.
 -- These laws and the order of the paths fix the page after each letter; they do not say how it is found.
-use mathlib.Core.Bool.{Bool, true, false}
-use mathlib.Core.List.{List}
+use mathlib.Core.Bool.{true, cond, _&&_}
+use mathlib.Core.List.{List, [], _∷_}
 use mathlib.Core.Path.{_≡_}
 use Prim.Native.Nat.{ℕ, _≤_}
+use lib.Dec.{eqb}
 use lib.ListN.{length}
 use Rattle.std.specs.declared.option.Option.{Option}
 use Rattle.std.specs.declared.option.Option.the-variants.{Some, None}
@@ -14,9 +15,9 @@ use Rattle.letter.specs.Letters.{is-letter}
 use Rattle.letter.specs.declared.change.Change.{Change}
 use Rattle.letter.specs.declared.change.Change.the-variants.{Put, Withdrawal}
 use Rattle.letter.specs.declared.change.Path.{Path}
-use Rattle.taker.specs.Books.{count-of, paths-of, one-more}
-use Rattle.taker.specs.Paths.{look, holds, same, ascending}
-use Rattle.taker.specs.Steps.{Page}
+use Rattle.taker.specs.Books.{book-step, count-of, paths-of, one-more}
+use Rattle.taker.specs.Paths.{look, same, ascending}
+use Rattle.taker.specs.Steps.{Page, all-taken}
 use Rattle.taker.specs.declared.refusal.TakerRefusal.{TakerRefusal}
 
 -- the path that the page shows for this train and section
@@ -66,3 +67,23 @@ Taken letter before (Err e) after = TurnedAway letter before after
 pub record Ordered (page : Page) : Type 0 where
   pub pairs : ascending (paths-of page) ≡ true
   pub few : length (paths-of page) ≤ 32
+
+-- Over whole runs. A letter says of a train and section that this path is held, that none is, or nothing.
+abbrev pub said : ℕ → ℕ → Option Change → Option Path → Option Path
+said train section (Some (Put p)) before = cond (same train section p) (Some p) before
+said train section (Some (Withdrawal t s)) before = cond (eqb t train && eqb s section) None before
+said train section None before = before
+
+-- the last word of these letters on a train and section, after what was held before
+abbrev pub last-word : ℕ → ℕ → Option Path → List (List ℕ) → Option Path
+last-word train section before [] = before
+last-word train section before (l ∷ ls) = last-word train section (said train section (decoded l) before) ls
+
+-- Whatever letters a new book took, it holds for each train and section what the last of them said of it:
+-- a path that was withdrawn is held again only if a later letter puts it.
+abbrev pub HoldsLastWord : Type 0
+HoldsLastWord =
+    (ls : List (List ℕ)) (page : Page) →
+    all-taken book-step (Some (0 ∷ [])) ls ≡ Some page →
+    (train section : ℕ) →
+    held-on page train section ≡ last-word train section None ls

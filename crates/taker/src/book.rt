@@ -7,6 +7,7 @@ use letter::Path;
 
 mod calls;
 mod paths;
+mod questions;
 
 pub use calls::BookTaker;
 

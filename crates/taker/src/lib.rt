@@ -9,4 +9,6 @@ pub use book::BookTaker;
 pub use journal::Journal;
 pub use journal::JournalTaker;
 pub use refusal::TakerRefusal;
+pub use refusal::TakerRefusalDebug;
+pub use refusal::TakerRefusalPartialEq;
 pub use taker::Taker;

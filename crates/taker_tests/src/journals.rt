@@ -6,7 +6,7 @@ use taker::TakerRefusal;
 use taker::TakerRefusalDebug;
 use taker::TakerRefusalPartialEq;
 
-// A journal whose page has 4,047 numbers: 83 letters of 48 bytes, and the lengths of each, less 20.
+// A journal whose page has 4,047 numbers: of 82 letters of 48 bytes and one of 28, each with its length.
 fn nearly_full(rt: &LibcRuntime) -> Result<Journal, Fail> {
     let mut journal = Journal::new(rt.alloc())?;
     for _ in 0..82 {
@@ -42,8 +42,8 @@ fn page_of_4096(rt: LibcRuntime) -> Result<(), Fail> {
 fn no_page_of_4097(rt: LibcRuntime) -> Result<(), Fail> {
     let mut journal = nearly_full(&rt)?;
     journal.take(&[8])?;
-    // 4,049 numbers, and 49 more would be 4,098
-    check_eq(journal.take(&[7; 48]), Err(TakerRefusal::NoPage))?;
+    // 4,049 numbers, and 48 more would be 4,097
+    check_eq(journal.take(&[7; 47]), Err(TakerRefusal::NoPage))?;
     check_eq(journal.number(4_049), None)?;
     journal.take(&[7; 46])?;
     check_eq(journal.number(4_095), Some(7))?;

@@ -4,13 +4,11 @@ ghost use mathlib.Core.Path.{_≡_};
 ghost use Rattle.letter.specs.declared.change.Change.the-variants.{Put, Withdrawal};
 ghost use Rattle.std.specs.Vec.{made};
 ghost use Rattle.std.specs.declared.option.Option.the-variants.{Some, None};
-ghost use Rattle.std.specs.shelf.Maps.{nth};
-ghost use Rattle.taker.specs.BookLaws.{Ordered, Taken};
-ghost use Rattle.taker.specs.Books.{book-page, book-step, change-step, one-more, count-of, paths-of};
+ghost use Rattle.taker.specs.BookLaws.{HoldsLastWord, Ordered, Taken};
+ghost use Rattle.taker.specs.Books.{book-page, book-step, change-step, one-more};
 ghost use Rattle.taker.specs.Steps.{answer, page-after};
 use super::Book;
 use super::MOST;
-use super::paths::path_at;
 use super::paths::put_path;
 use super::paths::remove_path;
 use crate::refusal::TakerRefusal;
@@ -30,20 +28,6 @@ impl Book {
         let paths = Vec::with_capacity(heap, MOST)?;
         Ok(Book { spoilt: 0, paths })
     }
-
-    // How many letters were spoilt.
-    pub fn count(&self) -> u64
-        ensures { λ r. ⌜ r ≡ count-of (book-page (now (self .entry))) ⌝ }
-    {
-        self.spoilt
-    }
-
-    // Path i, from 0; none past the last.
-    pub fn path(&self, i: usize) -> Option<Path>
-        ensures { λ r. ⌜ r ≡ nth (paths-of (book-page (now (self .entry)))) i ⌝ }
-    {
-        path_at(&self.paths, i)
-    }
 }
 
 pub impl Taker for Book as BookTaker {
@@ -56,6 +40,7 @@ pub impl Taker for Book as BookTaker {
         ensures after { λ _. ⌜ book-page (now (self .exit)) ≡ page-after (book-step (book-page (now (self .entry))) (now (letter .entry))) (book-page (now (self .entry))) ⌝ }
         ensures laws { λ r. ⌜ Taken (now (letter .entry)) (book-page (now (self .entry))) r (book-page (now (self .exit))) ⌝ }
         ensures ordered { λ _. ⌜ Ordered (book-page (now (self .exit))) ⌝ }
+        ensures runs { λ _. ⌜ HoldsLastWord ⌝ }
     {
         self.follow(letter)
     }

@@ -2,6 +2,7 @@ use Prim.Native.Nat.{_≤_}
 use native.Mathlib.Omega.{arith}
 use lib.ListN.{length}
 use Rattle.std.specs.Of.Vec.{vec-items}
+use Rattle.taker.proofs.LastWords.{holds-last-word}
 use Rattle.taker.proofs.Laws.{taken, ordered}
 use Rattle.taker.proofs.book.calls.BookTaker.take.Needs as need
 
@@ -18,4 +19,5 @@ returns c =
           taken (before .spoilt) (vec-items (before .paths)) (c .args .letter .now) (before .ordered) few
           (c .follow .result) _ (c .follow .ensures .value) (c .follow .ensures .after);
       ordered = ordered (after .spoilt) (vec-items (after .paths)) (after .ordered) few-after;
+      runs = holds-last-word;
     }
