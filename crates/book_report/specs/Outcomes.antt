@@ -1,5 +1,6 @@
 -- What becomes of one line: of the bytes that it writes in hex, by the book's step at the page before it.
 use mathlib.Core.List.{List}
+use mathlib.Core.Path.{_≡_}
 use Prim.Native.Nat.{ℕ}
 use Rattle.std.specs.declared.option.Option.{Option}
 use Rattle.std.specs.declared.option.Option.the-variants.{Some, None}
@@ -26,3 +27,8 @@ outcome-of page (Some letter) = taken-as (answer (book-step page letter)) (decod
 abbrev pub page-left : Page → Option (List ℕ) → Page
 page-left page None = page
 page-left page (Some letter) = page-after (book-step page letter) page
+
+-- a line that writes these bytes, or none, was handled
+pub record Handled (before : Page) (line : Option (List ℕ)) (outcome : Outcome) (after : Page) : Type 0 where
+  pub value : outcome ≡ outcome-of before line
+  pub left : after ≡ page-left before line

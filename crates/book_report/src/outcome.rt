@@ -1,6 +1,6 @@
 ghost use mathlib.Core.Path.{_≡_};
 ghost use Rattle.hex.specs.Hex.{parsed};
-ghost use Rattle.book_report.specs.Outcomes.{outcome-of, taken-as, page-left};
+ghost use Rattle.book_report.specs.Outcomes.{Handled, taken-as};
 ghost use Rattle.std.specs.declared.option.Option.the-variants.{Some};
 ghost use Rattle.std.specs.Results.{Cases};
 ghost use Rattle.taker.specs.Books.{book-page};
@@ -26,10 +26,11 @@ pub enum Outcome {
     NotHex,
 }
 
-// Hands the letter that the line writes to the book.
+// Hands the letter that the line writes to the book; where memory fails, the book is as it was.
 pub fn handle(heap: Global, book: &mut Book, line: &[u8]) -> Result<Outcome, AllocError>
-    ensures value { λ r. ⌜ Cases r (λ o. o ≡ outcome-of (book-page (now (book .entry))) (parsed (now (line .entry)))) (λ _. Unit {0}) ⌝ }
-    ensures after { λ r. ⌜ Cases r (λ _. book-page (now (book .exit)) ≡ page-left (book-page (now (book .entry))) (parsed (now (line .entry)))) (λ _. now (book .exit) ≡ now (book .entry)) ⌝ }
+    ensures { λ r. ⌜ Cases r
+        (λ o. Handled (book-page (now (book .entry))) (parsed (now (line .entry))) o (book-page (now (book .exit))))
+        (λ _. now (book .exit) ≡ now (book .entry)) ⌝ }
 {
     let Some(bytes) = hex::parse(heap, line)? else {
         return Ok(Outcome::NotHex);
@@ -38,8 +39,7 @@ pub fn handle(heap: Global, book: &mut Book, line: &[u8]) -> Result<Outcome, All
 }
 
 fn hand_over(book: &mut Book, letter: &[u8]) -> Outcome
-    ensures value { λ r. ⌜ r ≡ outcome-of (book-page (now (book .entry))) (Some (now (letter .entry))) ⌝ }
-    ensures after { λ _. ⌜ book-page (now (book .exit)) ≡ page-left (book-page (now (book .entry))) (Some (now (letter .entry))) ⌝ }
+    ensures { λ r. ⌜ Handled (book-page (now (book .entry))) (Some (now (letter .entry))) r (book-page (now (book .exit))) ⌝ }
 {
     let answer = book.take(letter);
     read_as(answer, decode(letter))

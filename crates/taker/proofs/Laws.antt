@@ -19,7 +19,7 @@ use Rattle.letter.specs.declared.change.Path.{Path}
 use Rattle.taker.specs.BookLaws.{held-on, PutDone, WithdrawalDone, SpoiltCounted, Done, NoPlace, TurnedAway, Taken, Ordered}
 use Rattle.taker.specs.Books.{page-of, paths-of, one-more, stepped, book-step}
 use Rattle.taker.specs.Paths.{look, holds, put, without, ascending, has-place}
-use Rattle.taker.specs.Steps.{Page, answer, page-after}
+use Rattle.taker.specs.Steps.{Page, Takes, answer, page-after}
 use Rattle.taker.specs.declared.refusal.TakerRefusal.{TakerRefusal}
 use Rattle.taker.proofs.Lookups.{none-held, put-holds, put-others, without-gone, without-others}
 use Rattle.taker.proofs.Pages.{shown-paths, step-is}
@@ -83,13 +83,12 @@ module _ (n : ℕ) (ps : List Path) (letter : List ℕ) (a : ascending ps ≡ tr
   -- what take answers and leaves, as its step says, keeps the laws
   pub taken :
       (r : Result (Unit {0}) TakerRefusal) (after : Page) →
-      r ≡ answer (book-step (page-of n ps) letter) →
-      after ≡ page-after (book-step (page-of n ps) letter) (page-of n ps) →
+      Takes book-step (page-of n ps) letter r after →
       Taken letter (page-of n ps) r after
-  taken r after e f =
+  taken r after e =
       let step : book-step (page-of n ps) letter ≡ cond (is-letter letter) (stepped n ps (decoded letter)) None =
       ap (λ o. cond (is-letter letter) o None) (step-is n ps (decoded letter)) in
-      rw (e, f, step) (step-taken (is-letter letter) refl)
+      rw (e .value, e .left, step) (step-taken (is-letter letter) refl)
 
 pub ordered : (n : ℕ) (ps : List Path) → ascending ps ≡ true → length ps ≤ 32 → Ordered (page-of n ps)
 ordered n ps a few =

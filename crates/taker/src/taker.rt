@@ -5,7 +5,7 @@ ghost use mathlib.Core.Path.{_≡_};
 ghost use Rattle.letter.specs.Letters.{is-letter};
 ghost use Rattle.std.specs.declared.option.Option.{Option};
 ghost use Rattle.std.specs.declared.option.Option.the-variants.{None};
-ghost use Rattle.taker.specs.Steps.{answer, page-after};
+ghost use Rattle.taker.specs.Steps.{Takes};
 use crate::refusal::TakerRefusal;
 
 // What letters are handed over to, one after another.
@@ -20,6 +20,5 @@ pub trait Taker {
 
     // Makes the step; refuses exactly where it gives no page, and then leaves the page.
     fn take(&mut self, letter: &[u8]) -> Result<(), TakerRefusal>
-        ensures value { λ r. ⌜ r ≡ answer (step (page (now (self .entry))) (now (letter .entry))) ⌝ }
-        ensures after { λ _. ⌜ page (now (self .exit)) ≡ page-after (step (page (now (self .entry))) (now (letter .entry))) (page (now (self .entry))) ⌝ };
+        ensures { λ r. ⌜ Takes step (page (now (self .entry))) (now (letter .entry)) r (page (now (self .exit))) ⌝ };
 }

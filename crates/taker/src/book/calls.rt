@@ -6,7 +6,7 @@ ghost use Rattle.std.specs.Vec.{made};
 ghost use Rattle.std.specs.declared.option.Option.the-variants.{Some, None};
 ghost use Rattle.taker.specs.BookLaws.{HoldsLastWord, Ordered, Taken};
 ghost use Rattle.taker.specs.Books.{book-page, book-step, change-step, one-more};
-ghost use Rattle.taker.specs.Steps.{answer, page-after};
+ghost use Rattle.taker.specs.Steps.{Follows, Takes};
 use super::Book;
 use super::MOST;
 use super::paths::put_path;
@@ -36,8 +36,7 @@ pub impl Taker for Book as BookTaker {
     ghost step = { book-step };
 
     fn take(&mut self, letter: &[u8]) -> Result<(), TakerRefusal>
-        ensures value { λ r. ⌜ r ≡ answer (book-step (book-page (now (self .entry))) (now (letter .entry))) ⌝ }
-        ensures after { λ _. ⌜ book-page (now (self .exit)) ≡ page-after (book-step (book-page (now (self .entry))) (now (letter .entry))) (book-page (now (self .entry))) ⌝ }
+        ensures step { λ r. ⌜ Takes book-step (book-page (now (self .entry))) (now (letter .entry)) r (book-page (now (self .exit))) ⌝ }
         ensures laws { λ r. ⌜ Taken (now (letter .entry)) (book-page (now (self .entry))) r (book-page (now (self .exit))) ⌝ }
         ensures ordered { λ _. ⌜ Ordered (book-page (now (self .exit))) ⌝ }
         ensures runs { λ _. ⌜ HoldsLastWord ⌝ }
@@ -49,8 +48,7 @@ pub impl Taker for Book as BookTaker {
 impl Book {
     // Does what the letter asks for, and counts it where it is spoilt.
     fn follow(&mut self, letter: &[u8]) -> Result<(), TakerRefusal>
-        ensures value { λ r. ⌜ r ≡ answer (book-step (book-page (now (self .entry))) (now (letter .entry))) ⌝ }
-        ensures after { λ _. ⌜ book-page (now (self .exit)) ≡ page-after (book-step (book-page (now (self .entry))) (now (letter .entry))) (book-page (now (self .entry))) ⌝ }
+        ensures { λ r. ⌜ Takes book-step (book-page (now (self .entry))) (now (letter .entry)) r (book-page (now (self .exit))) ⌝ }
     {
         if !is_letter(letter) {
             return Err(TakerRefusal::NoPage);
@@ -69,8 +67,7 @@ impl Book {
     }
 
     fn put(&mut self, p: Path) -> Result<(), TakerRefusal>
-        ensures value { λ r. ⌜ r ≡ answer (change-step (book-page (now (self .entry))) (Some (Put p))) ⌝ }
-        ensures after { λ _. ⌜ book-page (now (self .exit)) ≡ page-after (change-step (book-page (now (self .entry))) (Some (Put p))) (book-page (now (self .entry))) ⌝ }
+        ensures { λ r. ⌜ Follows (change-step (book-page (now (self .entry))) (Some (Put p))) (book-page (now (self .entry))) r (book-page (now (self .exit))) ⌝ }
     {
         put_path(&mut self.paths, p)
     }

@@ -21,7 +21,7 @@ returns c =
     let step = step-is (c .args .self .now .spoilt) (vec-items (c .args .self .now .paths)) (Some (Put (c .args .p))) in
     record {
       value = answer-is (c .put-path .result) _ _ (c .put-path .ensures .value) ∙ sym (ap answer step);
-      after =
+      left =
           ap (page-of (c .args .self .now .spoilt)) (c .put-path .ensures .items) ∙ after-is _ _ _ _ ∙
           sym (ap (λ o. page-after o (book-page (c .args .self .now))) step);
     }

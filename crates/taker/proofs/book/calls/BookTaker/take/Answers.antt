@@ -13,11 +13,10 @@ returns c =
     let few : length (vec-items (before .paths)) ≤ 32 = omega (arith, before .paths .ok .0, before .few) in
     let few-after : length (vec-items (after .paths)) ≤ 32 = omega (arith, after .paths .ok .0, after .few) in
     record {
-      value = c .follow .ensures .value;
-      after = c .follow .ensures .after;
+      step = c .follow .ensures;
       laws =
           taken (before .spoilt) (vec-items (before .paths)) (c .args .letter .now) (before .ordered) few
-          (c .follow .result) _ (c .follow .ensures .value) (c .follow .ensures .after);
+          (c .follow .result) _ (c .follow .ensures);
       ordered = ordered (after .spoilt) (vec-items (after .paths)) (after .ordered) few-after;
       runs = holds-last-word;
     }
