@@ -116,6 +116,8 @@ by-kind false false bytes put withdrawal c p w e = absurd (let z : _≡_ {A = �
 pub decodes : (bytes : List ℕ) → ((k : ℕ) → getD bytes k 0 < 256) → Decodes bytes (decoded bytes)
 decodes bytes small =
     record {
-      only = λ c e. by-kind (is-kind 1 15 bytes) (is-kind 2 7 bytes) bytes (put-at bytes) (withdrawal-at bytes) c (as-put bytes small) (as-withdrawal bytes small) e;
+      only = λ c e.
+          by-kind (is-kind 1 15 bytes) (is-kind 2 7 bytes) bytes (put-at bytes) (withdrawal-at bytes) c
+          (as-put bytes small) (as-withdrawal bytes small) e;
       each = λ c good e. ap decoded e ∙ decoded-encoded c good;
     }

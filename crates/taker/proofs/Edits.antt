@@ -57,7 +57,8 @@ put-by p q qs x false false h = refl
 put-is : (p : Path) (ps : List Path) → put p ps ≡ put-spot p ps (spot-of (p .train) (p .section) ps)
 put-is p [] = refl
 put-is p (q ∷ qs) =
-    put-by p q qs (spot-of (p .train) (p .section) qs) (earlier (p .train) (p .section) q) (same (p .train) (p .section) q) (put-is p qs)
+    put-by p q qs (spot-of (p .train) (p .section) qs)
+    (earlier (p .train) (p .section) q) (same (p .train) (p .section) q) (put-is p qs)
 
 -- whether a path is held
 
@@ -76,7 +77,8 @@ holds-is : (t s : ℕ) (ps : List Path) → ascending ps ≡ true → holds t s 
 holds-is t s [] a = refl
 holds-is t s (q ∷ qs) a =
     let h = and-parts _ _ a in
-    holds-by q (look t s qs) (spot-of t s qs) (earlier t s q) (same t s q) (apart t s q) (λ e. none-later t s q qs e (h .0)) (holds-is t s qs (h .1))
+    holds-by q (look t s qs) (spot-of t s qs) (earlier t s q) (same t s q)
+    (apart t s q) (λ e. none-later t s q qs e (h .0)) (holds-is t s qs (h .1))
 
 -- a withdrawal
 
@@ -101,7 +103,8 @@ without-is : (t s : ℕ) (ps : List Path) → ascending ps ≡ true → without 
 without-is t s [] a = refl
 without-is t s (q ∷ qs) a =
     let h = and-parts _ _ a in
-    without-by t s q qs (spot-of t s qs) (earlier t s q) (same t s q) (apart t s q) (λ e. without-none t s qs (none-later t s q qs e (h .0))) (without-is t s qs (h .1))
+    without-by t s q qs (spot-of t s qs) (earlier t s q) (same t s q)
+    (apart t s q) (λ e. without-none t s qs (none-later t s q qs e (h .0))) (without-is t s qs (h .1))
 
 -- the spot x was found in qs, which are the paths
 module _ (ps qs : List Path) (q : qs ≡ ps) (a : ascending ps ≡ true) where

@@ -24,7 +24,11 @@ no-letters page after few e =
     let same : page ≡ after = cc in
     record { shown = sym same ∙ sym (append-nil page); letters = tt; few = omega (arith, ap length same) }
 
-one-more : (page : Page) (l : List ℕ) (ls : List (List ℕ)) (after : Page) → is-letter l ≡ true → Run (page ++ entry l) ls after → Run page (l ∷ ls) after
+one-more :
+    (page : Page) (l : List ℕ) (ls : List (List ℕ)) (after : Page) →
+    is-letter l ≡ true →
+    Run (page ++ entry l) ls after →
+    Run page (l ∷ ls) after
 one-more page l ls after is run =
     record {
       shown = run .shown ∙ append-assoc page (entry l) (entries ls);
@@ -37,7 +41,9 @@ first :
     (t : Bool) (l : List ℕ) (ls : List (List ℕ)) (page after : Page) →
     (is-letter l && leb (length page + (1 + length l)) 4096) ≡ t →
     all-taken journal-step (cond t (Some (page ++ entry l)) None) ls ≡ Some after →
-    (length (page ++ entry l) ≤ 4096 → all-taken journal-step (Some (page ++ entry l)) ls ≡ Some after → Run (page ++ entry l) ls after) →
+    (length (page ++ entry l) ≤ 4096 →
+    all-taken journal-step (Some (page ++ entry l)) ls ≡ Some after →
+    Run (page ++ entry l) ls after) →
     Run page (l ∷ ls) after
 first true l ls page after is e rest =
     let both = and-parts _ _ is in
@@ -45,11 +51,19 @@ first true l ls page after is e rest =
     one-more page l ls after (both .0) (rest (omega (arith, length-append page (entry l))) e)
 first false l ls page after is e rest = absurd (let z : _≡_ {A = ℕ} 0 1 = cc in omega arith)
 
-runs : (ls : List (List ℕ)) (page after : Page) → length page ≤ 4096 → all-taken journal-step (Some page) ls ≡ Some after → Run page ls after
+runs :
+    (ls : List (List ℕ)) (page after : Page) →
+    length page ≤ 4096 →
+    all-taken journal-step (Some page) ls ≡ Some after →
+    Run page ls after
 runs [] page after few e = no-letters page after few e
 runs (l ∷ ls) page after few e = first _ l ls page after refl e (runs ls (page ++ entry l) after)
 
-step-takes : (page : Page) (l : List ℕ) → is-letter l ≡ true → length page + (1 + length l) ≤ 4096 → journal-step page l ≡ Some (page ++ entry l)
+step-takes :
+    (page : Page) (l : List ℕ) →
+    is-letter l ≡ true →
+    length page + (1 + length l) ≤ 4096 →
+    journal-step page l ≡ Some (page ++ entry l)
 step-takes page l is few = cond-true _ _ _ (and-from _ _ is (le-leb _ _ few))
 
 takes :
@@ -70,5 +84,7 @@ shows-entries =
     record {
       only = λ ls page e. runs ls [] page (omega arith) e .shown;
       takes = λ ls all few. takes ls [] all (omega arith);
-      fits = λ ls page e. let run = runs ls [] page (omega arith) e in (run .letters, omega (arith, run .few, ap length (run .shown)));
+      fits = λ ls page e.
+          let run = runs ls [] page (omega arith) e in
+          (run .letters, omega (arith, run .few, ap length (run .shown)));
     }

@@ -94,7 +94,9 @@ never page [] e = let z : _≡_ {A = ℕ} 0 1 = cc in omega arith
 never page (l ∷ ls) e = let z : _≡_ {A = ℕ} 0 1 = cc in omega arith
 
 -- where the step gave this, and the rest of the letters show their last words after any paths
-module _ (page : Page) (ls : List (List ℕ)) (rest : (n : ℕ) (ps : List Path) → ascending ps ≡ true → Taken page ls (Some (page-of n ps)) → Shows page ls ps) where
+module _
+    (page : Page) (ls : List (List ℕ))
+    (rest : (n : ℕ) (ps : List Path) → ascending ps ≡ true → Taken page ls (Some (page-of n ps)) → Shows page ls ps) where
   after-step :
       (ps : List Path) (l : List ℕ) (step : Option Page) →
       NextIf ps (decoded l) step →
@@ -102,7 +104,8 @@ module _ (page : Page) (ls : List (List ℕ)) (rest : (n : ℕ) (ps : List Path)
       Shows page (l ∷ ls) ps
   after-step ps l None next e = absurd (never page ls e)
   after-step ps l (Some q) next e =
-      let there : Taken page ls (Some (page-of (next .count) (next .paths))) = ap (λ x. all-taken book-step (Some x) ls) (sym (next .is)) ∙ e in
+      let there : Taken page ls (Some (page-of (next .count) (next .paths))) =
+      ap (λ x. all-taken book-step (Some x) ls) (sym (next .is)) ∙ e in
       λ t s. rest (next .count) (next .paths) (next .ordered) there t s ∙ ap (λ o. last-word t s o ls) (next .holds t s)
 
   after-letter :
@@ -113,7 +116,11 @@ module _ (page : Page) (ls : List (List ℕ)) (rest : (n : ℕ) (ps : List Path)
   after-letter n ps l true a e = after-step ps l (stepped n ps (decoded l)) (next-of n ps a (decoded l)) e
   after-letter n ps l false a e = absurd (never page ls e)
 
-runs : (page : Page) (ls : List (List ℕ)) (n : ℕ) (ps : List Path) → ascending ps ≡ true → Taken page ls (Some (page-of n ps)) → Shows page ls ps
+runs :
+    (page : Page) (ls : List (List ℕ)) (n : ℕ) (ps : List Path) →
+    ascending ps ≡ true →
+    Taken page ls (Some (page-of n ps)) →
+    Shows page ls ps
 runs page [] n ps a e =
     let same : page-of n ps ≡ page = cc in
     λ t s. ap (λ x. held-on x t s) (sym same) ∙ ap (look t s) (shown-paths n ps)

@@ -69,14 +69,19 @@ module _ (n : ℕ) (ps : List Path) (letter : List ℕ) (a : ascending ps ≡ tr
   outcome (Some (Withdrawal t s)) = withdrawal-done n ps t s a
   outcome None = spoilt-counted n ps
 
-  taken-by : (o : Option Page) → is-letter letter ≡ true → Outcome (decoded letter) o → Taken letter (page-of n ps) (answer o) (page-after o (page-of n ps))
+  taken-by :
+      (o : Option Page) →
+      is-letter letter ≡ true →
+      Outcome (decoded letter) o →
+      Taken letter (page-of n ps) (answer o) (page-after o (page-of n ps))
   taken-by (Some after) is done = (is, done)
   taken-by None is why = record { same-page = refl; why = λ _. why }
 
   step-taken :
       (b : Bool) →
       is-letter letter ≡ b →
-      Taken letter (page-of n ps) (answer (cond b (stepped n ps (decoded letter)) None)) (page-after (cond b (stepped n ps (decoded letter)) None) (page-of n ps))
+      Taken letter (page-of n ps) (answer (cond b (stepped n ps (decoded letter)) None))
+      (page-after (cond b (stepped n ps (decoded letter)) None) (page-of n ps))
   step-taken true is = taken-by (stepped n ps (decoded letter)) is (outcome (decoded letter))
   step-taken false is = record { same-page = refl; why = λ e. absurd (true≢false (sym e ∙ is)) }
 

@@ -62,7 +62,8 @@ put-holds-by p q qs false false e rest = cond-true _ _ _ (same-self p)
 
 pub put-holds : (p : Path) (ps : List Path) → look (p .train) (p .section) (put p ps) ≡ Some p
 put-holds p [] = cond-true _ _ _ (same-self p)
-put-holds p (q ∷ qs) = put-holds-by p q qs (earlier (p .train) (p .section) q) (same (p .train) (p .section) q) refl (put-holds p qs)
+put-holds p (q ∷ qs) =
+    put-holds-by p q qs (earlier (p .train) (p .section) q) (same (p .train) (p .section) q) refl (put-holds p qs)
 
 module _ (t s : ℕ) (p : Path) (other : (t ≡ p .train) × (s ≡ p .section) → ⊥) where
   not-p : same t s p ≡ false
@@ -80,7 +81,8 @@ module _ (t s : ℕ) (p : Path) (other : (t ≡ p .train) × (s ≡ p .section) 
 
   pub put-others : (ps : List Path) → look t s (put p ps) ≡ look t s ps
   put-others [] = cond-false _ _ _ not-p
-  put-others (q ∷ qs) = put-others-by q qs (earlier (p .train) (p .section) q) (same (p .train) (p .section) q) refl (put-others qs)
+  put-others (q ∷ qs) =
+      put-others-by q qs (earlier (p .train) (p .section) q) (same (p .train) (p .section) q) refl (put-others qs)
 
 -- after a withdrawal
 

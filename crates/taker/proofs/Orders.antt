@@ -10,10 +10,18 @@ use Rattle.letter.specs.declared.change.Path.{Path}
 use Rattle.taker.specs.Paths.{earlier, same, put, without, all-after, ascending, has-place, put-paths}
 
 -- neither before nor at the pair of p: so p is before
-after : (p q : Path) → earlier (p .train) (p .section) q ≡ false → same (p .train) (p .section) q ≡ false → earlier (q .train) (q .section) p ≡ true
+after :
+    (p q : Path) →
+    earlier (p .train) (p .section) q ≡ false →
+    same (p .train) (p .section) q ≡ false →
+    earlier (q .train) (q .section) p ≡ true
 after p q e f = grind (arith, tells)
 
-through : (p q r : Path) → earlier (p .train) (p .section) q ≡ false → earlier (r .train) (r .section) q ≡ true → earlier (r .train) (r .section) p ≡ true
+through :
+    (p q r : Path) →
+    earlier (p .train) (p .section) q ≡ false →
+    earlier (r .train) (r .section) q ≡ true →
+    earlier (r .train) (r .section) p ≡ true
 through p q r e f = grind (arith, tells)
 
 after-from : (p q : Path) (qs : List Path) → earlier (p .train) (p .section) q ≡ false → all-after q qs ≡ true → all-after p qs ≡ true
@@ -36,7 +44,8 @@ after-put : (q p : Path) (qs : List Path) → earlier (p .train) (p .section) q 
 after-put q p [] e a = and-from _ _ e refl
 after-put q p (r ∷ rs) e a =
     let h = and-parts _ _ a in
-    after-put-by q p r rs (earlier (p .train) (p .section) r) (same (p .train) (p .section) r) e (h .0) (h .1) (after-put q p rs e (h .1))
+    after-put-by q p r rs (earlier (p .train) (p .section) r) (same (p .train) (p .section) r)
+    e (h .0) (h .1) (after-put q p rs e (h .1))
 
 ascending-put-by :
     (p q : Path) (qs : List Path) (b c : Bool) →
@@ -78,7 +87,12 @@ after-without t s q (r ∷ rs) a =
     let h = and-parts _ _ a in
     after-without-by q r rs (without t s rs) (same t s r) (h .0) (h .1) (after-without t s q rs (h .1))
 
-ascending-without-by : (q : Path) (qs ws : List Path) (c : Bool) → ascending qs ≡ true → all-after q ws ≡ true → ascending ws ≡ true → ascending (cond c qs (q ∷ ws)) ≡ true
+ascending-without-by :
+    (q : Path) (qs ws : List Path) (c : Bool) →
+    ascending qs ≡ true →
+    all-after q ws ≡ true →
+    ascending ws ≡ true →
+    ascending (cond c qs (q ∷ ws)) ≡ true
 ascending-without-by q qs ws true a f h = a
 ascending-without-by q qs ws false a f h = and-from _ _ f h
 
@@ -86,4 +100,5 @@ pub ascending-without : (t s : ℕ) (ps : List Path) → ascending ps ≡ true �
 ascending-without t s [] a = refl
 ascending-without t s (q ∷ qs) a =
     let h = and-parts _ _ a in
-    ascending-without-by q qs (without t s qs) (same t s q) (h .1) (after-without t s q qs (h .0)) (ascending-without t s qs (h .1))
+    ascending-without-by q qs (without t s qs) (same t s q)
+    (h .1) (after-without t s q qs (h .0)) (ascending-without t s qs (h .1))

@@ -29,19 +29,28 @@ pub step-is : (n : ℕ) (ps : List Path) (change : Option Change) → change-ste
 step-is n ps change = ap (λ l. stepped n l change) (shown-paths n ps)
 
 -- a question after path i of the paths themselves answers path i of the page
-pub shown-path : (n : ℕ) (ps qs : List Path) (i : ℕ) (o : Option Path) → qs ≡ ps → PathAt qs i o → o ≡ nth (paths-of (page-of n ps)) i
+pub shown-path :
+    (n : ℕ) (ps qs : List Path) (i : ℕ) (o : Option Path) →
+    qs ≡ ps →
+    PathAt qs i o →
+    o ≡ nth (paths-of (page-of n ps)) i
 shown-path n ps qs i None e past = sym (ap (λ l. nth l i) (shown-paths n ps ∙ sym e) ∙ nth-past qs i past)
 shown-path n ps qs i (Some p) e is =
     sym (ap (λ l. nth l i) (shown-paths n ps ∙ sym e) ∙ nth-read qs (length qs) i p refl (is .0) (sym (is .1)))
 
 -- an answer by a test, and what it leaves
 
-pub answer-is : (r : Result (Unit {0}) TakerRefusal) (b : Bool) (next : Page) → isOk r ≡ b → r ≡ answer (cond b (Some next) None)
+pub answer-is :
+    (r : Result (Unit {0}) TakerRefusal) (b : Bool) (next : Page) →
+    isOk r ≡ b →
+    r ≡ answer (cond b (Some next) None)
 answer-is (Ok u) true next e = refl
 answer-is (Ok u) false next e = absurd (both-ways true e refl)
 answer-is (Err NoPage) true next e = absurd (both-ways true (sym e) refl)
 answer-is (Err NoPage) false next e = refl
 
-pub after-is : (n : ℕ) (b : Bool) (xs ys : List Path) → page-of n (cond b xs ys) ≡ page-after (cond b (Some (page-of n xs)) None) (page-of n ys)
+pub after-is :
+    (n : ℕ) (b : Bool) (xs ys : List Path) →
+    page-of n (cond b xs ys) ≡ page-after (cond b (Some (page-of n xs)) None) (page-of n ys)
 after-is n true xs ys = refl
 after-is n false xs ys = refl

@@ -19,7 +19,10 @@ shifted-next n (Held i) = ap Held (omega arith)
 shifted-next n (Free i) = ap Free (omega arith)
 
 -- the paths before place i are all earlier, and the paths from there on are left
-module _ (t s : ℕ) (ps : List Path) (i : ℕ) (d : Path) (lt : i < length ps) (inv : spot-of t s ps ≡ shifted i (spot-of t s (drop i ps))) where
+module _
+    (t s : ℕ) (ps : List Path) (i : ℕ) (d : Path)
+    (lt : i < length ps)
+    (inv : spot-of t s ps ≡ shifted i (spot-of t s (drop i ps))) where
   here :
       spot-of t s ps ≡
       shifted i (cond (earlier t s (getD ps i d)) (next (spot-of t s (drop (i + 1) ps))) (cond (same t s (getD ps i d)) (Held 0) (Free 0)))

@@ -36,7 +36,8 @@ pub impl Taker for Book as BookTaker {
     ghost step = { book-step };
 
     fn take(&mut self, letter: &[u8]) -> Result<(), TakerRefusal>
-        ensures step { λ r. ⌜ Takes book-step (book-page (now (self .entry))) (now (letter .entry)) r (book-page (now (self .exit))) ⌝ }
+        ensures step { λ r. ⌜ Takes book-step
+            (book-page (now (self .entry))) (now (letter .entry)) r (book-page (now (self .exit))) ⌝ }
         ensures laws { λ r. ⌜ Taken (now (letter .entry)) (book-page (now (self .entry))) r (book-page (now (self .exit))) ⌝ }
         ensures ordered { λ _. ⌜ Ordered (book-page (now (self .exit))) ⌝ }
         ensures runs { λ _. ⌜ HoldsLastWord ⌝ }
@@ -48,7 +49,8 @@ pub impl Taker for Book as BookTaker {
 impl Book {
     // Does what the letter asks for, and counts it where it is spoilt.
     fn follow(&mut self, letter: &[u8]) -> Result<(), TakerRefusal>
-        ensures { λ r. ⌜ Takes book-step (book-page (now (self .entry))) (now (letter .entry)) r (book-page (now (self .exit))) ⌝ }
+        ensures { λ r. ⌜ Takes book-step
+            (book-page (now (self .entry))) (now (letter .entry)) r (book-page (now (self .exit))) ⌝ }
     {
         if !is_letter(letter) {
             return Err(TakerRefusal::NoPage);
@@ -67,13 +69,15 @@ impl Book {
     }
 
     fn put(&mut self, p: Path) -> Result<(), TakerRefusal>
-        ensures { λ r. ⌜ Follows (change-step (book-page (now (self .entry))) (Some (Put p))) (book-page (now (self .entry))) r (book-page (now (self .exit))) ⌝ }
+        ensures { λ r. ⌜ Follows (change-step (book-page (now (self .entry))) (Some (Put p)))
+            (book-page (now (self .entry))) r (book-page (now (self .exit))) ⌝ }
     {
         put_path(&mut self.paths, p)
     }
 
     fn withdraw(&mut self, train: u32, section: u16)
-        ensures { λ _. ⌜ Some (book-page (now (self .exit))) ≡ change-step (book-page (now (self .entry))) (Some (Withdrawal train section)) ⌝ }
+        ensures { λ _. ⌜ Some (book-page (now (self .exit))) ≡
+            change-step (book-page (now (self .entry))) (Some (Withdrawal train section)) ⌝ }
     {
         remove_path(&mut self.paths, train, section);
     }

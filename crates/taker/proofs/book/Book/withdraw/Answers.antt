@@ -11,7 +11,8 @@ use Rattle.taker.proofs.book.Book.withdraw.Needs as need
 
 pub ghost-self : need.ghost-self
 ghost-self c =
-    let kept = ascending-without (c .args .train) (c .args .section) (vec-items (c .args .self .now .paths)) (c .args .self .now .ordered) in (
+    let kept =
+    ascending-without (c .args .train) (c .args .section) (vec-items (c .args .self .now .paths)) (c .args .self .now .ordered) in (
       omega (arith, c .remove-path .ensures .len, c .args .self .now .few),
       (
         omega (arith, c .remove-path .ensures .capacity, c .args .self .now .room),
@@ -22,4 +23,5 @@ ghost-self c =
 pub returns : need.returns
 returns c =
     ap (λ l. Some (page-of (c .args .self .now .spoilt) l)) (c .remove-path .ensures .items) ∙
-    sym (step-is (c .args .self .now .spoilt) (vec-items (c .args .self .now .paths)) (Some (Withdrawal (c .args .train) (c .args .section))))
+    sym (step-is (c .args .self .now .spoilt) (vec-items (c .args .self .now .paths))
+    (Some (Withdrawal (c .args .train) (c .args .section))))
