@@ -4,6 +4,8 @@ ghost use lib.ListN.{length};
 
 mod bytes;
 
+pub use bytes::is_letter;
+
 // The most bytes that a letter has.
 pub const MOST: usize = 48;
 

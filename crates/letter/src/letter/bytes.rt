@@ -3,7 +3,7 @@ ghost use lib.ListN.{length, drop};
 ghost use mathlib.Core.List.{_++_};
 ghost use mathlib.Core.Path.{_≡_};
 ghost use Rattle.std.specs.Options.{mapped};
-ghost use Rattle.letter.specs.Letters.{content, letter-of};
+ghost use Rattle.letter.specs.Letters.{content, is-letter, letter-of};
 use super::Letter;
 use super::MOST;
 
@@ -12,13 +12,15 @@ impl Letter {
     pub fn new(bytes: &[u8]) -> Option<Letter>
         ensures { λ r. ⌜ mapped content r ≡ letter-of (now (bytes .entry)) ⌝ }
     {
-        let len = bytes.len();
-        if len < 1 || len > MOST {
+        if !is_letter(bytes) {
             return None;
         }
         let mut held = [0; MOST];
         copy_front(&mut held, bytes);
-        Some(Letter { bytes: held, len })
+        Some(Letter {
+            bytes: held,
+            len: bytes.len(),
+        })
     }
 
     pub fn as_slice(&self) -> &[u8]
@@ -26,6 +28,13 @@ impl Letter {
     {
         &self.bytes[0..self.len]
     }
+}
+
+// Whether a letter may have these bytes: 1 to 48.
+pub fn is_letter(bytes: &[u8]) -> bool
+    ensures { λ r. ⌜ r ≡ is-letter (now (bytes .entry)) ⌝ }
+{
+    1 <= bytes.len() && bytes.len() <= MOST
 }
 
 // Writes one slice over the front of another.

@@ -1,0 +1,6 @@
+// Keeps a book of train paths from the letters on standard input.
+use std::error::AnyError;
+
+fn main(rt: LibcRuntime) -> Result<(), AnyError> {
+    rt.report(book_report::run(&rt))
+}
