@@ -77,6 +77,12 @@ pub record Decodes (bytes : List ℕ) (answer : Option Change) : Type 0 where
   pub only : (c : Change) → answer ≡ Some c → (bytes ≡ encoded c) × (in-range c ≡ true)
   pub each : (c : Change) → in-range c ≡ true → bytes ≡ encoded c → answer ≡ Some c
 
+-- the path of these values, if a put of it is in range
+abbrev pub path-of : ℕ → ℕ → ℕ → ℕ → Option Path
+path-of train section enter leave =
+    cond (pair-in-range train section && times-in-range enter leave)
+    (Some (record { train = train; section = section; enter = enter; leave = leave })) None
+
 -- the letter of a withdrawal, or why there is none
 abbrev pub withdrawal-of : ℕ → ℕ → Result (List ℕ) LetterRefusal
 withdrawal-of train section =

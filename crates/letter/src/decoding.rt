@@ -51,7 +51,7 @@ pub(crate) fn are_train_and_section(train: u32, section: u32) -> bool
 }
 
 // Whether a path may have these times.
-fn are_times(enter: u32, leave: u32) -> bool
+pub(crate) fn are_times(enter: u32, leave: u32) -> bool
     ensures { λ r. ⌜ r ≡ times-in-range enter leave ⌝ }
 {
     enter < leave && leave <= 172_799

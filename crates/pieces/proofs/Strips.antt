@@ -40,10 +40,10 @@ module _ (beginning p : List ℕ) where
       let z : drop (length beginning) p ≡ q = let f = s .1 in cc in
       sym (take-append-drop (length beginning) p) ∙
       (ap (λ x. x ++ drop (length beginning) p) (sameBytes-decides (take (length beginning) p) beginning .0 (s .0)) ∙
-        ap (λ x. beginning ++ x) z)
+      ap (λ x. beginning ++ x) z)
 
 pub is-strip : (beginning q : List ℕ) → strip-of beginning (beginning ++ q) ≡ Some q
 is-strip beginning q =
     strip-same beginning (beginning ++ q)
-      (sameBytes-decides (take (length beginning) (beginning ++ q)) beginning .1 (take-at beginning q (length beginning) refl)) ∙
+    (sameBytes-decides (take (length beginning) (beginning ++ q)) beginning .1 (take-at beginning q (length beginning) refl)) ∙
     ap Some (drop-at beginning q (length beginning) refl)

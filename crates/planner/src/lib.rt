@@ -1,0 +1,14 @@
+// The planner's end of a line: it numbers letters, sends them until they are acknowledged, and closes the sequence.
+mod draft;
+mod planner;
+mod refusal;
+mod settings;
+mod slot;
+mod state;
+
+pub use draft::Draft;
+pub use planner::Planner;
+pub use refusal::PlannerRefusal;
+pub use settings::Settings;
+pub use settings::SettingsRefusal;
+pub use state::PlannerState;
