@@ -6,3 +6,4 @@ pub mod Windows
 pub mod Senders
 pub mod Opening
 pub mod Writing
+pub mod Sending

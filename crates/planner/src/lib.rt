@@ -8,6 +8,7 @@ mod state;
 
 pub use draft::Draft;
 pub use planner::Planner;
+pub use planner::Sent;
 pub use refusal::PlannerRefusal;
 pub use settings::Settings;
 pub use settings::SettingsRefusal;

@@ -10,7 +10,10 @@ use crate::state::PlannerState;
 use frame::Identifier;
 
 mod opening;
+mod sending;
 mod writing;
+
+pub use sending::Sent;
 
 // The planner's end of a line.
 #[derive(Drop)]
