@@ -8,3 +8,4 @@ pub mod Attributes
 pub mod Letters
 pub mod Pairs
 pub mod TagPieces
+pub mod TokenTags

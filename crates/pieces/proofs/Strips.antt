@@ -10,10 +10,10 @@ use Rattle.std.specs.declared.option.Option.{Option}
 use Rattle.std.specs.declared.option.Option.the-variants.{Some, None}
 use Rattle.std.specs.shelf.Text.{sameBytes}
 use Rattle.std.proofs.shelf.Equals.{sameBytes-decides}
-use Rattle.std.proofs.shelf.Lists.{take-at, drop-at, take-append-drop}
-use Rattle.std.proofs.shelf.Tests.{cond-true, cond-false, cases-bool}
+use Rattle.std.proofs.shelf.Lists.{append-cancel-left, take-at, drop-at, take-append-drop}
+use Rattle.std.proofs.shelf.Tests.{both-ways, cond-true, cond-false, cases-bool}
 use Rattle.pieces.specs.Strips.{strip-of}
-use Rattle.pieces.proofs.Options.{some-cond}
+use Rattle.pieces.proofs.Options.{none-some, some-cond}
 
 pub not-same : (xs ys : List ℕ) → (xs ≡ ys → ⊥) → sameBytes xs ys ≡ false
 not-same xs ys h =
@@ -47,3 +47,17 @@ is-strip beginning q =
     strip-same beginning (beginning ++ q)
     (sameBytes-decides (take (length beginning) (beginning ++ q)) beginning .1 (take-at beginning q (length beginning) refl)) ∙
     ap Some (drop-at beginning q (length beginning) refl)
+
+-- comparing behind a beginning
+pub same-behind : (beginning p q : List ℕ) → p ≡ beginning ++ q → (r : List ℕ) → sameBytes p (beginning ++ r) ≡ sameBytes q r
+same-behind beginning p q e r =
+    elim (cases-bool (sameBytes q r))
+    [ inl s ↦ sameBytes-decides p (beginning ++ r) .1 (e ∙ ap (λ x. beginning ++ x) (sameBytes-decides q r .0 s)) ∙ sym s
+    | inr s ↦
+      not-same p (beginning ++ r) (λ z.
+        both-ways (sameBytes q r) s (sameBytes-decides q r .1 (append-cancel-left beginning q r (sym e ∙ z)))) ∙ sym s
+    ]
+
+pub none-behind : (beginning p : List ℕ) → strip-of beginning p ≡ None → (r : List ℕ) → sameBytes p (beginning ++ r) ≡ false
+none-behind beginning p e r =
+    not-same p (beginning ++ r) (λ z. none-some r (sym e ∙ (ap (strip-of beginning) z ∙ is-strip beginning r)))

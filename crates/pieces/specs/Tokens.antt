@@ -1,4 +1,5 @@
 -- What a token of the code is: the bytes of a piece, and the piece's shape.
+use mathlib.Core.Bool.{Bool, false}
 use mathlib.Core.List.{List}
 use mathlib.Core.Path.{_≡_}
 use Prim.Native.Nat.{ℕ, _-_, _<_}
@@ -6,9 +7,13 @@ use lib.ListN.{length}
 use denote.Ref.{now}
 use Rattle.std.specs.declared.result.Result.{Result}
 use Rattle.std.specs.declared.result.Result.the-variants.{Ok, Err}
+use Rattle.std.specs.shelf.Text.{sameBytes}
 use Rattle.pieces.specs.Cuts.{Shape, opening, closing, empty, words, piece, after, shape}
+use Rattle.pieces.specs.Tags.{open-text, close-text, empty-text}
 use Rattle.pieces.specs.declared.fault.ReadFault.{ReadFault}
 use Rattle.pieces.specs.declared.token.Lexed.{Lexed}
+use Rattle.pieces.specs.declared.token.Tag.{Tag}
+use Rattle.pieces.specs.declared.token.Tag.the-variants as tag
 use Rattle.pieces.specs.declared.token.Token.{Token}
 use Rattle.pieces.specs.declared.token.Token.the-variants.{Open, Close, Empty, Text}
 
@@ -23,6 +28,21 @@ shape-of (Open s) = opening
 shape-of (Close s) = closing
 shape-of (Empty s) = empty
 shape-of (Text s) = words
+
+-- the piece is this tag: of one shape with it, and spelt so
+abbrev pub is-tag : Token → Tag → Bool
+is-tag (Open s) (tag.Open e) = sameBytes (now s) (open-text e)
+is-tag (Open s) (tag.Close e) = false
+is-tag (Open s) (tag.Empty e) = false
+is-tag (Close s) (tag.Open e) = false
+is-tag (Close s) (tag.Close e) = sameBytes (now s) (close-text e)
+is-tag (Close s) (tag.Empty e) = false
+is-tag (Empty s) (tag.Open e) = false
+is-tag (Empty s) (tag.Close e) = false
+is-tag (Empty s) (tag.Empty e) = sameBytes (now s) (empty-text e)
+is-tag (Text s) (tag.Open e) = false
+is-tag (Text s) (tag.Close e) = false
+is-tag (Text s) (tag.Empty e) = false
 
 -- x is the first piece of bs and what comes after it
 pub record First (bs : List ℕ) (x : Lexed) : Type 0 where

@@ -1,4 +1,5 @@
 // Looking at bytes.
+ghost use mathlib.Core.List.{_++_};
 ghost use mathlib.Core.Path.{_≡_};
 ghost use Prim.Native.Nat.{_≤_};
 ghost use lib.ListN.{length, getD};
@@ -42,4 +43,18 @@ pub(crate) fn strip<'a>(part: &'a [u8], beginning: &[u8]) -> Option<&'a [u8]>
         return None;
     }
     Some(&part[n..])
+}
+
+// Whether the part is these three, one after another.
+pub(crate) fn encloses(part: &[u8], before: &[u8], name: &[u8], behind: &[u8]) -> bool
+    ensures { λ r. ⌜ r ≡ sameBytes (now (part .entry))
+        (now (before .entry) ++ (now (name .entry) ++ now (behind .entry))) ⌝ }
+{
+    match strip(part, before) {
+        Some(inner) => match strip(inner, name) {
+            Some(end) => same(end, behind),
+            None => false,
+        },
+        None => false,
+    }
 }

@@ -1,3 +1,6 @@
+ghost use mathlib.Core.Path.{_≡_};
+ghost use Rattle.pieces.specs.Tokens.{is-tag};
+use crate::bytes::encloses;
 use crate::names::Element;
 
 // A piece of a frame, by its shape. Each case holds all bytes of the piece, `<` and `>` too.
@@ -22,4 +25,18 @@ pub enum Tag {
     Open(Element),
     Close(Element),
     Empty(Element),
+}
+
+impl Token<'_> {
+    // Whether the piece is this tag.
+    pub fn is_tag(self, tag: Tag) -> bool
+        ensures { λ r. ⌜ r ≡ is-tag (self .entry) tag ⌝ }
+    {
+        match (self, tag) {
+            (Token::Open(part), Tag::Open(e)) => encloses(part, b"<", e.name(), b">"),
+            (Token::Close(part), Tag::Close(e)) => encloses(part, b"</", e.name(), b">"),
+            (Token::Empty(part), Tag::Empty(e)) => encloses(part, b"<", e.name(), b"/>"),
+            _ => false,
+        }
+    }
 }
