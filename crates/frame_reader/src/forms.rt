@@ -16,7 +16,10 @@ use pieces::Tag;
 pub fn read(bytes: &[u8]) -> Result<Frame, ReadFault>
     ensures { λ r. ⌜ Reads (now (bytes .entry)) r ⌝ }
 {
-    let mut reader = Reader { whole: bytes.len(), rest: bytes };
+    let mut reader = Reader {
+        whole: bytes.len(),
+        rest: bytes,
+    };
     reader.frame()
 }
 
@@ -56,7 +59,11 @@ impl Reader<'_> {
     fn ended(&self, frame: Frame) -> Result<Frame, ReadFault>
         ensures { λ r. ⌜ outcome r ≡ onward (now (self .entry)) (ends (meant.meaning frame)) ⌝ }
     {
-        if self.rest.is_empty() { Ok(frame) } else { Err(self.fault()) }
+        if self.rest.is_empty() {
+            Ok(frame)
+        } else {
+            Err(self.fault())
+        }
     }
 
     fn create_sequence_response(&mut self) -> Result<Frame, ReadFault>
@@ -77,7 +84,11 @@ impl Reader<'_> {
         self.expect(Tag::Open(Element::Letter))?;
         let letter = self.letter_text()?;
         self.expect(Tag::Close(Element::Letter))?;
-        self.ended(Frame::Sequence { identifier, number, letter })
+        self.ended(Frame::Sequence {
+            identifier,
+            number,
+            letter,
+        })
     }
 
     fn ack_requested(&mut self) -> Result<Frame, ReadFault>
@@ -96,7 +107,14 @@ impl Reader<'_> {
         let ranges = self.ranges()?;
         let is_final = self.is_final();
         let credit = self.credit()?;
-        self.after_receipt(Receipt { identifier, ranges, credit }, is_final)
+        self.after_receipt(
+            Receipt {
+                identifier,
+                ranges,
+                credit,
+            },
+            is_final,
+        )
     }
 
     fn after_receipt(&mut self, receipt: Receipt, is_final: bool) -> Result<Frame, ReadFault>

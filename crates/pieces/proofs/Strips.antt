@@ -51,11 +51,11 @@ is-strip beginning q =
 -- comparing behind a beginning
 pub same-behind : (beginning p q : List ℕ) → p ≡ beginning ++ q → (r : List ℕ) → sameBytes p (beginning ++ r) ≡ sameBytes q r
 same-behind beginning p q e r =
-    elim (cases-bool (sameBytes q r))
-    [ inl s ↦ sameBytes-decides p (beginning ++ r) .1 (e ∙ ap (λ x. beginning ++ x) (sameBytes-decides q r .0 s)) ∙ sym s
-    | inr s ↦
-      not-same p (beginning ++ r) (λ z.
-        both-ways (sameBytes q r) s (sameBytes-decides q r .1 (append-cancel-left beginning q r (sym e ∙ z)))) ∙ sym s
+    elim (cases-bool (sameBytes q r)) [
+      | inl s ↦ sameBytes-decides p (beginning ++ r) .1 (e ∙ ap (λ x. beginning ++ x) (sameBytes-decides q r .0 s)) ∙ sym s
+      | inr s ↦
+          not-same p (beginning ++ r) (λ z.
+          both-ways (sameBytes q r) s (sameBytes-decides q r .1 (append-cancel-left beginning q r (sym e ∙ z)))) ∙ sym s
     ]
 
 pub none-behind : (beginning p : List ℕ) → strip-of beginning p ≡ None → (r : List ℕ) → sameBytes p (beginning ++ r) ≡ false

@@ -1,3 +1,5 @@
 pub mod Slots
 pub mod Writes
 pub mod Sends
+pub mod Turns
+pub mod Windows

@@ -7,3 +7,5 @@ pub mod Senders
 pub mod Opening
 pub mod Writing
 pub mod Sending
+pub mod Receipts
+pub mod Hearing

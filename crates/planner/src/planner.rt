@@ -9,7 +9,9 @@ use crate::slot::WINDOW;
 use crate::state::PlannerState;
 use frame::Identifier;
 
+mod hearing;
 mod opening;
+mod receipts;
 mod sending;
 mod writing;
 
