@@ -3,3 +3,4 @@ pub mod Writes
 pub mod Sends
 pub mod Turns
 pub mod Windows
+pub mod Laws

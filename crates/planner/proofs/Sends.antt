@@ -8,7 +8,7 @@ use Rattle.std.specs.declared.option.Option.{Option}
 use Rattle.std.specs.declared.option.Option.the-variants.{Some, None}
 use Rattle.std.proofs.shelf.Lists.{at-drop-more, getD-map}
 use Rattle.frame.specs.Meanings.{Meaning, sequence}
-use Rattle.planner.specs.Senders.{Sender, done, name, with-window}
+use Rattle.planner.specs.Sources.{Source, done, name, with-window}
 use Rattle.planner.specs.Sending.{Due, due-letter, or-later, first-due, lowest-due, sends-due}
 use Rattle.planner.specs.Windows.{Slot, free, waiting, receipted, slot-of, window-of, is-free}
 use Rattle.planner.specs.declared.slot.Slot as code
@@ -35,7 +35,7 @@ due-stands gap credit clock n receipted l e = refl
 
 -- what sending this due letter leaves and puts
 pub sent-is :
-    (s : Sender) (clock : ℕ) (d : Due) (window : List Slot) (m : Meaning) →
+    (s : Source) (clock : ℕ) (d : Due) (window : List Slot) (m : Meaning) →
     Some d ≡ lowest-due clock s →
     window ≡ set (s .window) (d .place) (waiting (d .letter) (Some clock)) →
     m ≡ sequence (name s) (s .lowest + d .place) (d .letter) →

@@ -100,3 +100,7 @@ lowest-before (s ∷ w) rest e =
 
 pub lowest-slid : (w : List Slot) → Lowest (slid (in-front w) w)
 lowest-slid w = let h = lowest-before w [] refl in rw append-nil at h
+
+pub slid-at : (j : ℕ) (w : List Slot) (k : ℕ) → getD (slid j w) k free ≡ getD w (k + j) free
+slid-at zero w k = ap (λ i. getD w i free) (omega arith)
+slid-at (suc j) w k = slid-at j (shifted w) k ∙ shift-at w (k + j) ∙ ap (λ i. getD w i free) (omega arith)

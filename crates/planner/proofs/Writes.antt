@@ -5,12 +5,12 @@ use Prim.Native.Nat.{ℕ, _+_, _-_}
 use lib.ListN.{set}
 use Rattle.std.specs.declared.option.Option.the-variants.{None}
 use Rattle.std.specs.declared.result.Result.the-variants.{Ok}
-use Rattle.planner.specs.Senders.{Sender, Acted, done, with-window}
+use Rattle.planner.specs.Sources.{Source, Acted, done, with-window}
 use Rattle.planner.specs.Windows.{Slot, waiting}
 use Rattle.planner.specs.Writing.{next-number, adds-at, adds}
 
 pub added :
-    (s : Sender) (number : ℕ) (letter : List ℕ) (window : List Slot) →
+    (s : Source) (number : ℕ) (letter : List ℕ) (window : List Slot) →
     Ok number ≡ next-number s →
     number ≡ s .written + 1 →
     window ≡ set (s .window) (number - s .lowest) (waiting letter None) →

@@ -27,14 +27,14 @@ use Rattle.frame.specs.Meanings.{
 use Rattle.frame.specs.declared.form.Form.{Form}
 use Rattle.frame.specs.declared.range.Range.{Range}
 use Rattle.planner.specs.Receipts.{first-above, receives}
-use Rattle.planner.specs.Senders.{Sender, Acted, done, refuses, in-state}
+use Rattle.planner.specs.Sources.{Source, Acted, done, refuses, in-state}
 use Rattle.planner.specs.States.{rank}
 use Rattle.planner.specs.declared.refusal.PlannerRefusal.the-variants as refusal
 use Rattle.planner.specs.declared.state.PlannerState.{PlannerState}
 use Rattle.planner.specs.declared.state.PlannerState.the-variants as state
 
 -- a sequence was created: its identifier is held, and letters up to 8 may be sent
-abbrev pub created : ℕ → Sender → Sender
+abbrev pub created : ℕ → Source → Source
 created n s =
     record {
       state = state.Created;
@@ -48,7 +48,7 @@ created n s =
     }
 
 -- only in Creating; elsewhere it is ignored
-abbrev pub if-creating : Sender → Sender → Sender
+abbrev pub if-creating : Source → Source → Source
 if-creating next s = cond (eqb (rank (s .state)) 1) next s
 
 -- form 7 turns Closing to Closed, and form 9 Terminating to Ended
@@ -66,21 +66,21 @@ once-shut st = cond (eqb (rank st) 2) state.Closed (cond (eqb (rank st) 3) state
 abbrev pub once-lost : PlannerState → PlannerState
 once-lost st = cond (leb 2 (rank st)) state.Ended st
 
-abbrev pub after-fault : Fault-meaning → Sender → Sender
+abbrev pub after-fault : Fault-meaning → Source → Source
 after-fault (unknown-sequence n) s = in-state (once-lost (s .state)) s
 after-fault (sequence-terminated n) s = in-state (once-lost (s .state)) s
 after-fault (sequence-closed n) s = in-state (once-shut (s .state)) s
 after-fault create-sequence-refused s = if-creating (in-state state.None s) s
 
 -- a receipt with an Upper above the highest number written is refused; else its numbers have receipts
-abbrev pub takes-if : Option ℕ → Form → List Range → ℕ → PlannerState → Sender → Acted Form
+abbrev pub takes-if : Option ℕ → Form → List Range → ℕ → PlannerState → Source → Acted Form
 takes-if (Some upper) form rs c next s = refuses s (refusal.Upper upper)
 takes-if None form rs c next s = done (receives rs c next s) form
 
-abbrev pub takes : Form → List Range → ℕ → PlannerState → Sender → Acted Form
+abbrev pub takes : Form → List Range → ℕ → PlannerState → Source → Acted Form
 takes form rs c next s = takes-if (first-above rs (s .written)) form rs c next s
 
-abbrev pub heeds : Meaning → Sender → Acted Form
+abbrev pub heeds : Meaning → Source → Acted Form
 heeds create-sequence s = done s (form-of create-sequence)
 heeds (create-sequence-response n) s = done (if-creating (created n s) s) (form-of (create-sequence-response n))
 heeds (sequence n m bs) s = done s (form-of (sequence n m bs))
@@ -117,9 +117,9 @@ is-held None n = false
 is-held (Some m) n = eqb n m
 
 -- a frame about a sequence that is not held is refused
-abbrev pub if-held : Option ℕ → Sender → Acted Form → Acted Form
+abbrev pub if-held : Option ℕ → Source → Acted Form → Acted Form
 if-held None s then = then
 if-held (Some n) s then = cond (is-held (s .held) n) then (refuses s (refusal.Identifier n))
 
-abbrev pub hears : Meaning → Sender → Acted Form
+abbrev pub hears : Meaning → Source → Acted Form
 hears m s = if-held (about m) s (heeds m s)

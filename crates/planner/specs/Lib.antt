@@ -3,9 +3,11 @@ pub mod Drafts
 pub mod Refusals
 pub mod States
 pub mod Windows
-pub mod Senders
+pub mod Sources
 pub mod Opening
 pub mod Writing
 pub mod Sending
 pub mod Receipts
 pub mod Hearing
+pub mod Starting
+pub mod Laws

@@ -7,7 +7,7 @@ use lib.ListN.{drop}
 use Rattle.std.specs.declared.option.Option.{Option}
 use Rattle.std.specs.declared.option.Option.the-variants.{Some, None}
 use Rattle.frame.specs.declared.range.Range.{Range}
-use Rattle.planner.specs.Senders.{Sender}
+use Rattle.planner.specs.Sources.{Source}
 use Rattle.planner.specs.Windows.{Slot, free, waiting, receipted, has-receipt}
 use Rattle.planner.specs.declared.state.PlannerState.{PlannerState}
 
@@ -46,7 +46,7 @@ slid zero window = window
 slid (suc k) window = slid k (shifted window)
 
 -- the window moves past the receipts in front, and the credit is the larger of the old and c
-abbrev pub past-receipts : List Slot → ℕ → PlannerState → Sender → Sender
+abbrev pub past-receipts : List Slot → ℕ → PlannerState → Source → Source
 past-receipts window c next s =
     record {
       state = next;
@@ -59,5 +59,5 @@ past-receipts window c next s =
       window = slid (in-front window) window;
     }
 
-abbrev pub receives : List Range → ℕ → PlannerState → Sender → Sender
+abbrev pub receives : List Range → ℕ → PlannerState → Source → Source
 receives rs c next s = past-receipts (with-receipts rs (s .lowest) (s .window)) c next s

@@ -10,7 +10,7 @@ use Rattle.std.specs.declared.result.Result.{Result}
 use Rattle.std.specs.declared.result.Result.the-variants.{Ok, Err}
 use Rattle.letter.specs.Letters.{content}
 use Rattle.frame.specs.Meanings.{Meaning, meaning, sequence}
-use Rattle.planner.specs.Senders.{Sender, Acted, done, allowed, with-window, name}
+use Rattle.planner.specs.Sources.{Source, Acted, done, allowed, with-window, name}
 use Rattle.planner.specs.States.{rank}
 use Rattle.planner.specs.Windows.{Slot, free, waiting, receipted}
 use Rattle.planner.specs.declared.planner.sending.Due as code
@@ -46,17 +46,17 @@ first-due gap credit clock b k [] = None
 first-due gap credit clock b k (s ∷ window) =
     or-later (due-letter gap credit clock (b + k) s) k (first-due gap credit clock b (k + 1) window)
 
-abbrev pub lowest-due : ℕ → Sender → Option Due
+abbrev pub lowest-due : ℕ → Source → Option Due
 lowest-due clock s = first-due (s .gap) (s .credit) clock (s .lowest) 0 (s .window)
 
 -- the letter is marked as sent at this clock, and put with its number
-abbrev pub sends-due : Option Due → ℕ → Sender → Acted (Option (ℕ × Meaning))
+abbrev pub sends-due : Option Due → ℕ → Source → Acted (Option (ℕ × Meaning))
 sends-due None clock s = done s None
 sends-due (Some d) clock s =
     done (with-window (s .written) (set (s .window) (d .place) (waiting (d .letter) (Some clock))) s)
     (Some (s .lowest + d .place, sequence (name s) (s .lowest + d .place) (d .letter)))
 
-abbrev pub sends : ℕ → Sender → Acted (Option (ℕ × Meaning))
+abbrev pub sends : ℕ → Source → Acted (Option (ℕ × Meaning))
 sends clock s = allowed (eqb (rank (s .state)) 2) s (sends-due (lowest-due clock s) clock s)
 
 -- the number and what the frame says

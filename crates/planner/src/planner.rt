@@ -9,6 +9,7 @@ use crate::slot::WINDOW;
 use crate::state::PlannerState;
 use frame::Identifier;
 
+mod asking;
 mod hearing;
 mod opening;
 mod receipts;

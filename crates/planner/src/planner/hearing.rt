@@ -5,7 +5,7 @@ ghost use Rattle.frame.specs.Listed.{listed};
 ghost use Rattle.frame.specs.declared.numbers.Identifier.{Identifier};
 ghost use Rattle.frame.specs.Meanings.{meaning, fault-meaning};
 ghost use Rattle.planner.specs.Hearing.{about, about-fault, after-fault, created, if-creating, heeds, hears, is-held, once-closed, once-ended, takes};
-ghost use Rattle.planner.specs.Senders.{acted, sender-of};
+ghost use Rattle.planner.specs.Sources.{acted, source-of};
 ghost use Rattle.planner.specs.States.{named};
 ghost use Rattle.std.specs.Options.{mapped};
 ghost use Rattle.std.specs.declared.option.Option.{Option};
@@ -25,7 +25,7 @@ use frame::Receipt;
 impl Planner {
     // Heeds a frame that came back; refuses one about another sequence.
     fn hear_frame(&mut self, frame: Frame) -> Result<Form, PlannerRefusal>
-        ensures { λ r. ⌜ acted (now (self .exit)) r ≡ hears (meaning frame) (sender-of (now (self .entry))) ⌝ }
+        ensures { λ r. ⌜ acted (now (self .exit)) r ≡ hears (meaning frame) (source-of (now (self .entry))) ⌝ }
     {
         match about_sequence(frame) {
             Some(identifier) => {
@@ -50,7 +50,7 @@ impl Planner {
 
     // What the end makes of the frame, by its form.
     fn heed(&mut self, frame: Frame) -> Result<Form, PlannerRefusal>
-        ensures { λ r. ⌜ acted (now (self .exit)) r ≡ heeds (meaning frame) (sender-of (now (self .entry))) ⌝ }
+        ensures { λ r. ⌜ acted (now (self .exit)) r ≡ heeds (meaning frame) (source-of (now (self .entry))) ⌝ }
     {
         let form = frame.form();
         match frame {
@@ -83,8 +83,8 @@ impl Planner {
 
     // The sequence is created, if it was asked for.
     fn create(&mut self, identifier: Identifier)
-        ensures { λ _. ⌜ sender-of (now (self .exit)) ≡ if-creating
-            (created (identifier .value) (sender-of (now (self .entry)))) (sender-of (now (self .entry))) ⌝ }
+        ensures { λ _. ⌜ source-of (now (self .exit)) ≡ if-creating
+            (created (identifier .value) (source-of (now (self .entry)))) (source-of (now (self .entry))) ⌝ }
     {
         if let PlannerState::Creating = self.state {
             self.state = PlannerState::Created;
@@ -95,8 +95,8 @@ impl Planner {
 
     // What the state and a fault make of each other.
     fn heed_fault(&mut self, fault: Fault)
-        ensures { λ _. ⌜ sender-of (now (self .exit)) ≡
-            after-fault (fault-meaning fault) (sender-of (now (self .entry))) ⌝ }
+        ensures { λ _. ⌜ source-of (now (self .exit)) ≡
+            after-fault (fault-meaning fault) (source-of (now (self .entry))) ⌝ }
     {
         match (self.state, fault) {
             (PlannerState::Creating, Fault::CreateSequenceRefused) => {
@@ -127,7 +127,7 @@ impl Planner {
     ) -> Result<Form, PlannerRefusal>
         requires { ⌜ named next (now self .held) ≡ true ⌝ }
         ensures { λ r. ⌜ acted (now (self .exit)) r ≡
-            takes form (listed (receipt .ranges)) (receipt .credit .value) next (sender-of (now (self .entry))) ⌝ }
+            takes form (listed (receipt .ranges)) (receipt .credit .value) next (source-of (now (self .entry))) ⌝ }
     {
         let ranges = receipt.ranges.as_slice();
         if let Some(upper) = upper_above(ranges, self.written) {

@@ -1,6 +1,6 @@
 ghost use mathlib.Core.Path.{_≡_};
 ghost use Rattle.planner.specs.Opening.{opens, asks, closes, finishes};
-ghost use Rattle.planner.specs.Senders.{acted, said, sender-of};
+ghost use Rattle.planner.specs.Sources.{acted, said, source-of};
 use super::Planner;
 use crate::refusal::PlannerRefusal;
 use crate::state::PlannerState;
@@ -10,7 +10,7 @@ use frame::Number;
 impl Planner {
     // Asks for a sequence: the frame to put.
     pub fn open(&mut self) -> Result<Frame, PlannerRefusal>
-        ensures { λ r. ⌜ acted (now (self .exit)) (said r) ≡ opens (sender-of (now (self .entry))) ⌝ }
+        ensures { λ r. ⌜ acted (now (self .exit)) (said r) ≡ opens (source-of (now (self .entry))) ⌝ }
     {
         match self.state {
             PlannerState::None | PlannerState::Creating => {
@@ -23,7 +23,7 @@ impl Planner {
 
     // Asks for a receipt: the frame to put.
     pub fn ask(&mut self) -> Result<Frame, PlannerRefusal>
-        ensures { λ r. ⌜ acted (now (self .exit)) (said r) ≡ asks (sender-of (now (self .entry))) ⌝ }
+        ensures { λ r. ⌜ acted (now (self .exit)) (said r) ≡ asks (source-of (now (self .entry))) ⌝ }
     {
         match (self.state, self.held) {
             (PlannerState::Created, Some(identifier)) => Ok(Frame::AckRequested { identifier }),
@@ -33,7 +33,7 @@ impl Planner {
 
     // Writes no more letters: the frame to put.
     pub fn close(&mut self) -> Result<Frame, PlannerRefusal>
-        ensures { λ r. ⌜ acted (now (self .exit)) (said r) ≡ closes (sender-of (now (self .entry))) ⌝ }
+        ensures { λ r. ⌜ acted (now (self .exit)) (said r) ≡ closes (source-of (now (self .entry))) ⌝ }
     {
         match (self.state, self.held) {
             (PlannerState::Created | PlannerState::Closing, Some(identifier)) => {
@@ -49,7 +49,7 @@ impl Planner {
 
     // Ends the sequence: the frame to put.
     pub fn finish(&mut self) -> Result<Frame, PlannerRefusal>
-        ensures { λ r. ⌜ acted (now (self .exit)) (said r) ≡ finishes (sender-of (now (self .entry))) ⌝ }
+        ensures { λ r. ⌜ acted (now (self .exit)) (said r) ≡ finishes (source-of (now (self .entry))) ⌝ }
     {
         match (self.state, self.held) {
             (PlannerState::Closed | PlannerState::Terminating, Some(identifier)) => {

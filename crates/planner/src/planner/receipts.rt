@@ -58,7 +58,7 @@ pub(super) fn mark_all(slots: &mut [Slot; WINDOW], lowest: u64, ranges: &[Range]
     }
 }
 
-fn is_receipted(slot: Slot) -> bool
+pub(super) fn is_receipted(slot: Slot) -> bool
     ensures { λ r. ⌜ r ≡ has-receipt (slot-of slot) ⌝ }
 {
     match slot {

@@ -4,7 +4,7 @@ ghost use mathlib.Core.Bool.{true, false};
 ghost use mathlib.Core.Path.{_≡_};
 ghost use Rattle.frame.specs.Meanings.{meaning, sequence};
 ghost use Rattle.letter.specs.Letters.{content};
-ghost use Rattle.planner.specs.Senders.{acted, name, sender-of};
+ghost use Rattle.planner.specs.Sources.{acted, name, source-of};
 ghost use Rattle.planner.specs.Sending.{rested, due-letter, due-of, first-due, lowest-due, sends-due, sends, sent, send-answer};
 ghost use Rattle.planner.specs.Windows.{free, is-free, slot-of, window-of};
 ghost use Rattle.std.specs.Options.{Cases, isSome, mapped};
@@ -77,7 +77,7 @@ fn first_due(slots: &[Slot; WINDOW], gap: u64, credit: u64, clock: u64, b: u64) 
 impl Planner {
     // The lowest letter that is due at this clock: its number and the frame to put; none where none is due.
     pub fn send(&mut self, clock: u64) -> Result<Option<Sent>, PlannerRefusal>
-        ensures { λ r. ⌜ acted (now (self .exit)) (send-answer r) ≡ sends clock (sender-of (now (self .entry))) ⌝ }
+        ensures { λ r. ⌜ acted (now (self .exit)) (send-answer r) ≡ sends clock (source-of (now (self .entry))) ⌝ }
     {
         match self.state {
             PlannerState::Created => Ok(self.send_due(clock)),
@@ -88,7 +88,7 @@ impl Planner {
     fn send_due(&mut self, clock: u64) -> Option<Sent>
         requires { ⌜ isSome (now self .held) ≡ true ⌝ }
         ensures { λ r. ⌜ acted (now (self .exit)) (Ok (sent r)) ≡
-            sends-due (lowest-due clock (sender-of (now (self .entry)))) clock (sender-of (now (self .entry))) ⌝ }
+            sends-due (lowest-due clock (source-of (now (self .entry)))) clock (source-of (now (self .entry))) ⌝ }
     {
         let due = first_due(&self.slots, self.gap, self.credit, clock, self.lowest)?;
         let number = self.lowest + due.place as u64;
@@ -102,7 +102,7 @@ impl Planner {
         requires named { ⌜ isSome (now self .held) ≡ true ⌝ }
         requires low { ⌜ 1 ≤ number ⌝ }
         requires high { ⌜ number ≤ 9223372036854775807 ⌝ }
-        ensures { λ r. ⌜ meaning r ≡ sequence (name (sender-of (now (self .entry)))) number (content letter) ⌝ }
+        ensures { λ r. ⌜ meaning r ≡ sequence (name (source-of (now (self .entry)))) number (content letter) ⌝ }
     {
         let Some(identifier) = self.held else {
             unreachable()

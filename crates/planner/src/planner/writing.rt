@@ -3,7 +3,7 @@ ghost use mathlib.Core.Path.{_≡_};
 ghost use Rattle.letter.specs.Changes.{encoded};
 ghost use Rattle.letter.specs.Letters.{content};
 ghost use Rattle.letter.specs.declared.change.Change.the-variants.{Put};
-ghost use Rattle.planner.specs.Senders.{acted, sender-of};
+ghost use Rattle.planner.specs.Sources.{acted, source-of};
 ghost use Rattle.planner.specs.Writing.{adds, next-number, writes, posts, post-answer};
 ghost use Rattle.std.specs.Results.{Cases};
 ghost use Rattle.std.specs.Vec.{made};
@@ -18,7 +18,7 @@ impl Planner {
     // Gives the letter of these bytes the next number, and answers that.
     pub fn write(&mut self, bytes: &[u8]) -> Result<u64, PlannerRefusal>
         ensures { λ r. ⌜ acted (now (self .exit)) r ≡
-            writes (now (bytes .entry)) (sender-of (now (self .entry))) ⌝ }
+            writes (now (bytes .entry)) (source-of (now (self .entry))) ⌝ }
     {
         match self.state {
             PlannerState::Created => match Letter::new(bytes) {
@@ -32,7 +32,7 @@ impl Planner {
     // Gives the draft's letter the next number, and answers that; a refusal hands the same draft back.
     pub fn post(&mut self, draft: Draft) -> Result<u64, (PlannerRefusal, Draft)>
         ensures value { λ r. ⌜ acted (now (self .exit)) (post-answer r) ≡
-            posts (encoded (Put (draft .path))) (sender-of (now (self .entry))) ⌝ }
+            posts (encoded (Put (draft .path))) (source-of (now (self .entry))) ⌝ }
         ensures back { λ r. ⌜ Cases r (λ _. Unit {0}) (λ e. e .1 ≡ draft) ⌝ }
     {
         match self.add_draft(draft.letter()) {
@@ -45,7 +45,7 @@ impl Planner {
     }
 
     fn add_draft(&mut self, letter: Letter) -> Result<u64, PlannerRefusal>
-        ensures { λ r. ⌜ acted (now (self .exit)) r ≡ posts (content letter) (sender-of (now (self .entry))) ⌝ }
+        ensures { λ r. ⌜ acted (now (self .exit)) r ≡ posts (content letter) (source-of (now (self .entry))) ⌝ }
     {
         match self.state {
             PlannerState::Created => self.add(letter),
@@ -55,7 +55,7 @@ impl Planner {
 
     // Gives the letter the next number, if there is one and the window has room.
     fn add(&mut self, letter: Letter) -> Result<u64, PlannerRefusal>
-        ensures { λ r. ⌜ acted (now (self .exit)) r ≡ adds (content letter) (sender-of (now (self .entry))) ⌝ }
+        ensures { λ r. ⌜ acted (now (self .exit)) r ≡ adds (content letter) (source-of (now (self .entry))) ⌝ }
     {
         let number = self.next_number()?;
         self.slots[(number - self.lowest) as usize] = Slot::Waiting(letter, None);
@@ -64,7 +64,7 @@ impl Planner {
     }
 
     fn next_number(&self) -> Result<u64, PlannerRefusal>
-        ensures value { λ r. ⌜ r ≡ next-number (sender-of (now (self .entry))) ⌝ }
+        ensures value { λ r. ⌜ r ≡ next-number (source-of (now (self .entry))) ⌝ }
         ensures bounds { λ r. ⌜ made r (λ n. (n ≡ now (self .entry) .written + 1)
             × (n ≤ now (self .entry) .limit) × (n ≤ now (self .entry) .lowest + 7)) ⌝ }
     {

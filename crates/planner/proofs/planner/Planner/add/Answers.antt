@@ -4,7 +4,7 @@ use native.Mathlib.Omega.{arith}
 use lib.ListN.{length-set}
 use Rattle.std.proofs.shelf.Lists.{map-set}
 use Rattle.letter.specs.Letters.{content}
-use Rattle.planner.specs.Senders.{sender-of}
+use Rattle.planner.specs.Sources.{source-of}
 use Rattle.planner.specs.Windows.{slot-of, window-of, Free-from, Lowest}
 use Rattle.planner.proofs.Slots.{free-set, lowest-set}
 use Rattle.planner.proofs.Writes.{added}
@@ -43,5 +43,5 @@ pub returns : need.returns
 returns c =
     let number = c .in-Continue-number .number in
     let is = c .in-Continue-number .ensures tt in
-    added (sender-of (c .args .self .now)) number (content (c .args .letter)) _ (is .value) (is .bounds .0)
+    added (source-of (c .args .self .now)) number (content (c .args .letter)) _ (is .value) (is .bounds .0)
     (map-set slot-of (c .args .self .now .slots) (number - c .args .self .now .lowest) _)

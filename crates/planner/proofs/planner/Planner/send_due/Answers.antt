@@ -3,7 +3,7 @@ use Prim.Native.Nat.{_+_, _-_}
 use native.Mathlib.Omega.{arith}
 use lib.ListN.{length-set}
 use Rattle.std.proofs.shelf.Lists.{map-set}
-use Rattle.planner.specs.Senders.{sender-of}
+use Rattle.planner.specs.Sources.{source-of}
 use Rattle.planner.specs.Sending.{due-of}
 use Rattle.planner.specs.Windows.{slot-of, window-of, Free-from, Lowest}
 use Rattle.planner.proofs.Slots.{free-set, lowest-set, in-front}
@@ -44,5 +44,5 @@ ghost-self-2 c =
 pub returns : need.returns
 returns c =
     let p = c .args .self .now in
-    sent-is (sender-of p) (c .args .clock) (due-of (c .in-Continue-due .due)) _ _ (c .in-Continue-due .ensures tt .value)
+    sent-is (source-of p) (c .args .clock) (due-of (c .in-Continue-due .due)) _ _ (c .in-Continue-due .ensures tt .value)
     (map-set slot-of (p .slots) (c .in-Continue-due .due .place) _) (c .sequence-frame-frame .ensures)

@@ -14,7 +14,7 @@ use Rattle.planner.specs.declared.refusal.PlannerRefusal.{PlannerRefusal}
 use Rattle.planner.specs.declared.refusal.PlannerRefusal.the-variants as refusal
 use Rattle.planner.specs.declared.state.PlannerState.{PlannerState}
 
-pub record Sender : Type 0 where
+pub record Source : Type 0 where
   pub state : PlannerState
   -- the identifier of the sequence that was created
   pub held : Option ℕ
@@ -29,8 +29,8 @@ pub record Sender : Type 0 where
   -- what stands for the eight numbers from the lowest on
   pub window : List Slot
 
-abbrev pub sender-of : Planner → Sender
-sender-of p =
+abbrev pub source-of : Planner → Source
+source-of p =
     record {
       state = p .state;
       held = mapped (λ i. i .value) (p .held);
@@ -43,10 +43,10 @@ sender-of p =
     }
 
 -- the identifier in what it puts
-abbrev pub name : Sender → ℕ
+abbrev pub name : Source → ℕ
 name s = valueOr (s .held) 0
 
-abbrev pub in-state : PlannerState → Sender → Sender
+abbrev pub in-state : PlannerState → Source → Source
 in-state next s =
     record {
       state = next;
@@ -59,7 +59,7 @@ in-state next s =
       window = s .window;
     }
 
-abbrev pub with-window : ℕ → List Slot → Sender → Sender
+abbrev pub with-window : ℕ → List Slot → Source → Source
 with-window written window s =
     record {
       state = s .state;
@@ -74,20 +74,20 @@ with-window written window s =
 
 -- what a call leaves and answers
 pub record Acted (A : Type 0) : Type 0 where
-  pub sender : Sender
+  pub source : Source
   pub answer : Result A PlannerRefusal
 
 abbrev pub acted : {A : Type 0} → Planner → Result A PlannerRefusal → Acted A
-acted p r = record { sender = sender-of p; answer = r }
+acted p r = record { source = source-of p; answer = r }
 
-abbrev pub done : {A : Type 0} → Sender → A → Acted A
-done s a = record { sender = s; answer = Ok a }
+abbrev pub done : {A : Type 0} → Source → A → Acted A
+done s a = record { source = s; answer = Ok a }
 
-abbrev pub refuses : {A : Type 0} → Sender → PlannerRefusal → Acted A
-refuses s why = record { sender = s; answer = Err why }
+abbrev pub refuses : {A : Type 0} → Source → PlannerRefusal → Acted A
+refuses s why = record { source = s; answer = Err why }
 
 -- refused by its state, unless the test passes
-abbrev pub allowed : {A : Type 0} → Bool → Sender → Acted A → Acted A
+abbrev pub allowed : {A : Type 0} → Bool → Source → Acted A → Acted A
 allowed test s then = cond test then (refuses s (refusal.State (s .state)))
 
 -- what the frame to put says
