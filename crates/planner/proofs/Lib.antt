@@ -4,3 +4,4 @@ pub mod Sends
 pub mod Turns
 pub mod Windows
 pub mod Laws
+pub mod Dues

@@ -6,10 +6,13 @@ use mathlib.Core.Path.{_≡_}
 use Prim.Native.Nat.{ℕ, _+_, _-_, _≤_, _<_}
 use lib.Dec.{eqb, leb, ltb}
 use lib.ListN.{getD, length}
+use Rattle.std.specs.Options.{isSome}
+use Rattle.std.specs.declared.option.Option.{Option}
+use Rattle.std.specs.declared.option.Option.the-variants.{Some, None}
 use Rattle.frame.specs.Meanings.{Meaning}
 use Rattle.planner.specs.Hearing.{hears}
 use Rattle.planner.specs.Opening.{opens, asks, closes, finishes}
-use Rattle.planner.specs.Sending.{sends}
+use Rattle.planner.specs.Sending.{Due, due-letter, lowest-due, sends}
 use Rattle.planner.specs.Sources.{Source}
 use Rattle.planner.specs.States.{rank}
 use Rattle.planner.specs.Windows.{Free-from, Lowest, free, has-receipt}
@@ -74,3 +77,20 @@ pub record IsLowest (s : Source) (b : ℕ) : Type 0 where
   pub without : receipted s b ≡ false
   pub below : (n : ℕ) → n < b → receipted s n ≡ true
   pub near : s .written ≤ b + 7
+
+-- number n is due: its letter has no receipt, it is at most the credit, and it was never sent or last sent
+-- at least the gap ago
+abbrev pub is-due : ℕ → Source → ℕ → Bool
+is-due clock s n =
+    leb (s .lowest) n &&
+    isSome (due-letter (s .gap) (s .credit) clock n (getD (s .window) (n - s .lowest) free))
+
+-- the number that send answers is due, and no lower one is; where it answers nothing, none is due
+abbrev pub IsLowestDue : ℕ → Source → Option Due → Type 0
+IsLowestDue clock s None = (n : ℕ) → is-due clock s n ≡ false
+IsLowestDue clock s (Some d) =
+    (is-due clock s (s .lowest + d .place) ≡ true) ×
+    ((n : ℕ) → n < s .lowest + d .place → is-due clock s n ≡ false)
+
+abbrev pub SendsLowestDue : Type 0
+SendsLowestDue = (clock : ℕ) (s : Source) → IsLowestDue clock s (lowest-due clock s)

@@ -4,6 +4,7 @@ ghost use mathlib.Core.Bool.{true, false};
 ghost use mathlib.Core.Path.{_≡_};
 ghost use Rattle.frame.specs.Meanings.{meaning, sequence};
 ghost use Rattle.letter.specs.Letters.{content};
+ghost use Rattle.planner.specs.Laws.{SendsLowestDue};
 ghost use Rattle.planner.specs.Sources.{acted, name, source-of};
 ghost use Rattle.planner.specs.Sending.{rested, due-letter, due-of, first-due, lowest-due, sends-due, sends, sent, send-answer};
 ghost use Rattle.planner.specs.Windows.{free, is-free, slot-of, window-of};
@@ -77,7 +78,8 @@ fn first_due(slots: &[Slot; WINDOW], gap: u64, credit: u64, clock: u64, b: u64) 
 impl Planner {
     // The lowest letter that is due at this clock: its number and the frame to put; none where none is due.
     pub fn send(&mut self, clock: u64) -> Result<Option<Sent>, PlannerRefusal>
-        ensures { λ r. ⌜ acted (now (self .exit)) (send-answer r) ≡ sends clock (source-of (now (self .entry))) ⌝ }
+        ensures step { λ r. ⌜ acted (now (self .exit)) (send-answer r) ≡ sends clock (source-of (now (self .entry))) ⌝ }
+        ensures due { λ _. ⌜ SendsLowestDue ⌝ }
     {
         match self.state {
             PlannerState::Created => Ok(self.send_due(clock)),
