@@ -1,5 +1,5 @@
 ghost use Prim.Native.Nat.{_≤_};
-ghost use lib.Dec.{leb};
+ghost use lib.Dec.{leb, ltb};
 ghost use mathlib.Core.Bool.{_&&_};
 ghost use mathlib.Core.Path.{_≡_};
 ghost use Rattle.planner.specs.Receipts.{covers, first-above, marked, with-receipts, in-front, shifted, slid};
@@ -30,11 +30,17 @@ pub(super) fn upper_above(ranges: &[Range], n: u64) -> Option<u64>
     ensures { λ r. ⌜ r ≡ first-above (now (ranges .entry)) n ⌝ }
 {
     for range in ranges {
-        if range.upper > n {
+        if is_above(*range, n) {
             return Some(range.upper);
         }
     }
     None
+}
+
+fn is_above(range: Range, n: u64) -> bool
+    ensures { λ r. ⌜ r ≡ ltb n (range .upper) ⌝ }
+{
+    range.upper > n
 }
 
 // The slot, where a receipt names its number or not.
