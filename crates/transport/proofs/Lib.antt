@@ -1,0 +1,5 @@
+mod Rings
+mod Holds
+mod Exact
+mod Mailboxes
+mod Bags
