@@ -18,14 +18,18 @@ pub record Sized (frame : List ℕ) : Type 0 where
   pub some : 1 ≤ length frame
   pub few : length frame ≤ 800
 
+-- P holds of every frame that waits
+abbrev pub EachFrame : (List ℕ → Type 0) → List (List ℕ) → Type 0
+EachFrame P waiting = (g : List ℕ) → Has waiting g → P g
+
 -- every frame that waits after a call waited before it
 abbrev pub NothingNew : List (List ℕ) → List (List ℕ) → Type 0
-NothingNew before after = (g : List ℕ) → Has after g → Has before g
+NothingNew before after = EachFrame (Has before) after
 
 -- a put that was done: nothing waits but what waited and this frame, and below the depth it is at the end
 pub record Added (depth : ℕ) (before : List (List ℕ)) (frame : List ℕ) (after : List (List ℕ)) : Type 0 where
   pub sized : Sized frame
-  pub only : (g : List ℕ) → Has after g → Has before g ⊎ (g ≡ frame)
+  pub only : EachFrame (λ g. Has before g ⊎ (g ≡ frame)) after
   pub appended : length before < depth → after ≡ before ++ frame ∷ []
 
 -- a put that was refused, which only what is no frame can be
