@@ -14,3 +14,5 @@ mod layer_tests;
 mod mailbox_tests;
 #[cfg(test)]
 mod size_tests;
+#[cfg(test)]
+mod steps;
