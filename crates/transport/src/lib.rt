@@ -3,6 +3,7 @@ mod bag;
 mod mailbox;
 mod refusal;
 mod ring;
+mod sizes;
 mod slot;
 mod transport;
 
@@ -13,5 +14,5 @@ pub use mailbox::MailboxTransport;
 pub use refusal::TransportRefusal;
 pub use refusal::TransportRefusalDebug;
 pub use refusal::TransportRefusalPartialEq;
-pub use transport::FRAME_MOST;
+pub use sizes::FRAME_MOST;
 pub use transport::Transport;

@@ -1,7 +1,7 @@
 ghost use Prim.Native.Nat.{_≤_};
 ghost use mathlib.Core.Path.{_≡_};
 ghost use lib.ListN.{length};
-use crate::transport::FRAME_MOST;
+use crate::sizes::FRAME_MOST;
 
 pub(crate) mod copies;
 

@@ -5,9 +5,6 @@ ghost use Rattle.std.specs.shelf.Lists.{Has};
 ghost use Rattle.transport.specs.Meaning.{Sized, Put, Got};
 use crate::refusal::TransportRefusal;
 
-// The most bytes that a frame has, and the least memory that a get is lent.
-pub const FRAME_MOST: usize = 800;
-
 // What carries frames. It may lose, repeat, delay and reorder them, but it makes none up.
 pub trait Transport {
     // the frames that wait, oldest first

@@ -7,12 +7,15 @@ ghost use Rattle.transport.specs.Calls.{put-answer, get-answer, get-memory};
 use super::Bag;
 use crate::refusal::TransportRefusal;
 use crate::ring::Ring;
-use crate::transport::FRAME_MOST;
+use crate::sizes::is_enough;
+use crate::sizes::is_frame;
 use crate::transport::Transport;
 use std::alloc::AllocError;
 use std::alloc::Global;
 
 const SIZE: usize = 8;
+
+const DEPTH: u32 = 0;
 
 impl Bag {
     // An empty bag, with all the memory that it ever uses.
@@ -33,7 +36,7 @@ pub impl Transport for Bag as BagTransport {
     ghost depth = { 0 };
 
     fn depth() -> u32 {
-        0
+        DEPTH
     }
 
     fn put(&mut self, frame: &[u8]) -> Result<(), TransportRefusal>
@@ -41,7 +44,7 @@ pub impl Transport for Bag as BagTransport {
         ensures waiting { λ _. ⌜ in-bag (now (self .exit)) ≡ bag-put (in-bag (now (self .entry))) (now (frame .entry)) ⌝ }
         ensures takes { λ _. ⌜ takes-next (now (self .exit)) ≡ takes-next (now (self .entry)) ⌝ }
     {
-        if frame.len() < 1 || frame.len() > FRAME_MOST {
+        if !is_frame(frame) {
             return Err(TransportRefusal::FrameSize);
         }
         if self.frames.len() == SIZE {
@@ -57,7 +60,7 @@ pub impl Transport for Bag as BagTransport {
         ensures memory { λ _. ⌜ now (memory .exit) ≡ get-memory (newest (in-bag (now (self .entry)))) (now (memory .entry)) ⌝ }
         ensures takes { λ _. ⌜ takes-next (now (self .exit)) ≡ bag-takes (takes-next (now (self .entry))) (in-bag (now (self .entry))) (now (memory .entry)) ⌝ }
     {
-        if memory.len() < FRAME_MOST {
+        if !is_enough(memory) {
             return Err(TransportRefusal::MemorySize);
         }
         let count = self.frames.len();

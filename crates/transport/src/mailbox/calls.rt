@@ -6,12 +6,15 @@ ghost use Rattle.transport.specs.Mailbox.{in-mailbox, oldest, mailbox-put, mai
 use super::Mailbox;
 use crate::refusal::TransportRefusal;
 use crate::ring::Ring;
-use crate::transport::FRAME_MOST;
+use crate::sizes::is_enough;
+use crate::sizes::is_frame;
 use crate::transport::Transport;
 use std::alloc::AllocError;
 use std::alloc::Global;
 
 const SIZE: usize = 32;
+
+const DEPTH: u32 = 32;
 
 impl Mailbox {
     // An empty mailbox, with all the memory that it ever uses.
@@ -29,14 +32,14 @@ pub impl Transport for Mailbox as MailboxTransport {
     ghost depth = { 32 };
 
     fn depth() -> u32 {
-        SIZE as u32
+        DEPTH
     }
 
     fn put(&mut self, frame: &[u8]) -> Result<(), TransportRefusal>
         ensures answer { λ r. ⌜ r ≡ put-answer (now (frame .entry)) ⌝ }
         ensures waiting { λ _. ⌜ in-mailbox (now (self .exit)) ≡ mailbox-put (in-mailbox (now (self .entry))) (now (frame .entry)) ⌝ }
     {
-        if frame.len() < 1 || frame.len() > FRAME_MOST {
+        if !is_frame(frame) {
             return Err(TransportRefusal::FrameSize);
         }
         if self.frames.len() < SIZE {
@@ -50,7 +53,7 @@ pub impl Transport for Mailbox as MailboxTransport {
         ensures waiting { λ _. ⌜ in-mailbox (now (self .exit)) ≡ mailbox-get (in-mailbox (now (self .entry))) (now (memory .entry)) ⌝ }
         ensures memory { λ _. ⌜ now (memory .exit) ≡ get-memory (oldest (in-mailbox (now (self .entry)))) (now (memory .entry)) ⌝ }
     {
-        if memory.len() < FRAME_MOST {
+        if !is_enough(memory) {
             return Err(TransportRefusal::MemorySize);
         }
         let n = self.frames.load(0, memory);

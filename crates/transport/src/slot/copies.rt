@@ -5,7 +5,7 @@ ghost use mathlib.Core.Path.{_≡_};
 ghost use Rattle.transport.specs.Meaning.{Sized};
 ghost use Rattle.transport.specs.Stored.{content};
 use super::Slot;
-use crate::transport::FRAME_MOST;
+use crate::sizes::FRAME_MOST;
 
 impl Slot {
     // A slot that was never stored to holds one zero byte, so that every slot holds a frame.
