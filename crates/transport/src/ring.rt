@@ -4,7 +4,8 @@ use crate::slot::Slot;
 
 pub(crate) mod moves;
 
-// A row of frames in slots that are all made at once: from slot `first` on, and round the end, `count` are in use.
+// A row of frames, in slots that are all made at once.
+// Those in use are `count` slots from `first` on, and round the end.
 #[derive(Drop)]
 pub(crate) struct Ring {
     slots: Vec<Slot>,

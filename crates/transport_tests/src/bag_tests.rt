@@ -23,7 +23,8 @@ fn keeps_8(rt: LibcRuntime) -> Result<(), Fail> {
     holds_newest(&mut b, 9)
 }
 
-// Of the gets that find a frame every second takes it off; one that is refused or finds none does not count.
+// Of the gets that find a frame every second takes it off.
+// One that is refused or finds none does not count.
 #[test]
 fn every_second(rt: LibcRuntime) -> Result<(), Fail> {
     let mut b = Bag::new(rt.alloc())?;

@@ -1,4 +1,4 @@
-// What the trait `Transport` bears: a layer over any transport, a function over any two, and tests of the mailbox and the bag.
+// A layer over any transport, a function over any two, and tests of the mailbox and the bag.
 mod forwards;
 mod through;
 

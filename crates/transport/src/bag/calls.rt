@@ -13,6 +13,7 @@ use crate::transport::Transport;
 use std::alloc::AllocError;
 use std::alloc::Global;
 
+// How many frames it has slots for, and how many of them it keeps in order.
 const SIZE: usize = 8;
 
 const DEPTH: u32 = 0;
@@ -41,7 +42,8 @@ pub impl Transport for Bag as BagTransport {
 
     fn put(&mut self, frame: &[u8]) -> Result<(), TransportRefusal>
         ensures answer { λ r. ⌜ r ≡ put-answer (now (frame .entry)) ⌝ }
-        ensures waiting { λ _. ⌜ in-bag (now (self .exit)) ≡ bag-put (in-bag (now (self .entry))) (now (frame .entry)) ⌝ }
+        ensures waiting { λ _. ⌜ in-bag (now (self .exit)) ≡
+            bag-put (in-bag (now (self .entry))) (now (frame .entry)) ⌝ }
         ensures takes { λ _. ⌜ takes-next (now (self .exit)) ≡ takes-next (now (self .entry)) ⌝ }
     {
         if !is_frame(frame) {
@@ -55,10 +57,14 @@ pub impl Transport for Bag as BagTransport {
     }
 
     fn get(&mut self, memory: &mut [u8]) -> Result<Option<usize>, TransportRefusal>
-        ensures answer { λ r. ⌜ r ≡ get-answer (newest (in-bag (now (self .entry)))) (now (memory .entry)) ⌝ }
-        ensures waiting { λ _. ⌜ in-bag (now (self .exit)) ≡ bag-get (takes-next (now (self .entry))) (in-bag (now (self .entry))) (now (memory .entry)) ⌝ }
-        ensures memory { λ _. ⌜ now (memory .exit) ≡ get-memory (newest (in-bag (now (self .entry)))) (now (memory .entry)) ⌝ }
-        ensures takes { λ _. ⌜ takes-next (now (self .exit)) ≡ bag-takes (takes-next (now (self .entry))) (in-bag (now (self .entry))) (now (memory .entry)) ⌝ }
+        ensures answer { λ r. ⌜ r ≡
+            get-answer (newest (in-bag (now (self .entry)))) (now (memory .entry)) ⌝ }
+        ensures waiting { λ _. ⌜ in-bag (now (self .exit)) ≡
+            bag-get (takes-next (now (self .entry))) (in-bag (now (self .entry))) (now (memory .entry)) ⌝ }
+        ensures memory { λ _. ⌜ now (memory .exit) ≡
+            get-memory (newest (in-bag (now (self .entry)))) (now (memory .entry)) ⌝ }
+        ensures takes { λ _. ⌜ takes-next (now (self .exit)) ≡
+            bag-takes (takes-next (now (self .entry))) (in-bag (now (self .entry))) (now (memory .entry)) ⌝ }
     {
         if !is_enough(memory) {
             return Err(TransportRefusal::MemorySize);

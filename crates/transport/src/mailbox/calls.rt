@@ -12,6 +12,7 @@ use crate::transport::Transport;
 use std::alloc::AllocError;
 use std::alloc::Global;
 
+// How many frames it has slots for, and keeps in order.
 const SIZE: usize = 32;
 
 const DEPTH: u32 = 32;
@@ -37,7 +38,8 @@ pub impl Transport for Mailbox as MailboxTransport {
 
     fn put(&mut self, frame: &[u8]) -> Result<(), TransportRefusal>
         ensures answer { λ r. ⌜ r ≡ put-answer (now (frame .entry)) ⌝ }
-        ensures waiting { λ _. ⌜ in-mailbox (now (self .exit)) ≡ mailbox-put (in-mailbox (now (self .entry))) (now (frame .entry)) ⌝ }
+        ensures waiting { λ _. ⌜ in-mailbox (now (self .exit)) ≡
+            mailbox-put (in-mailbox (now (self .entry))) (now (frame .entry)) ⌝ }
     {
         if !is_frame(frame) {
             return Err(TransportRefusal::FrameSize);
@@ -49,9 +51,12 @@ pub impl Transport for Mailbox as MailboxTransport {
     }
 
     fn get(&mut self, memory: &mut [u8]) -> Result<Option<usize>, TransportRefusal>
-        ensures answer { λ r. ⌜ r ≡ get-answer (oldest (in-mailbox (now (self .entry)))) (now (memory .entry)) ⌝ }
-        ensures waiting { λ _. ⌜ in-mailbox (now (self .exit)) ≡ mailbox-get (in-mailbox (now (self .entry))) (now (memory .entry)) ⌝ }
-        ensures memory { λ _. ⌜ now (memory .exit) ≡ get-memory (oldest (in-mailbox (now (self .entry)))) (now (memory .entry)) ⌝ }
+        ensures answer { λ r. ⌜ r ≡
+            get-answer (oldest (in-mailbox (now (self .entry)))) (now (memory .entry)) ⌝ }
+        ensures waiting { λ _. ⌜ in-mailbox (now (self .exit)) ≡
+            mailbox-get (in-mailbox (now (self .entry))) (now (memory .entry)) ⌝ }
+        ensures memory { λ _. ⌜ now (memory .exit) ≡
+            get-memory (oldest (in-mailbox (now (self .entry)))) (now (memory .entry)) ⌝ }
     {
         if !is_enough(memory) {
             return Err(TransportRefusal::MemorySize);

@@ -39,18 +39,15 @@ impl Ring {
         ensures within { λ r. ⌜ r < room (now (self .entry)) ⌝ }
     {
         let upper = self.slots.len() - self.first;
-        if k < upper {
-            self.first + k
-        } else {
-            k - upper
-        }
+        if k < upper { self.first + k } else { k - upper }
     }
 
     // Adds a frame at the end.
     pub(crate) fn push(&mut self, frame: &[u8])
         requires sized { ⌜ Sized (now frame) ⌝ }
         requires room { ⌜ length (held (now self)) < room (now self) ⌝ }
-        ensures held { λ _. ⌜ held (now (self .exit)) ≡ held (now (self .entry)) ++ now (frame .entry) ∷ [] ⌝ }
+        ensures held { λ _. ⌜ held (now (self .exit)) ≡
+            held (now (self .entry)) ++ now (frame .entry) ∷ [] ⌝ }
         ensures room { λ _. ⌜ room (now (self .exit)) ≡ room (now (self .entry)) ⌝ }
     {
         let at = self.place(self.count);
@@ -58,13 +55,13 @@ impl Ring {
         self.count += 1;
     }
 
-    // Copies the i-th frame, from the oldest, to the front of the memory, and answers its length; none where there is no such frame.
+    // Copies the i-th frame, counted from the oldest, to the front of the memory.
+    // Answers its length, or none where there is no such frame.
     pub(crate) fn load(&self, i: usize, memory: &mut [u8]) -> Option<usize>
         requires { ⌜ 800 ≤ length (now memory) ⌝ }
         ensures answer { λ r. ⌜ r ≡ long (nth (held (now (self .entry))) i) ⌝ }
-        ensures memory {
-            λ _. ⌜ now (memory .exit) ≡ written (nth (held (now (self .entry))) i) (now (memory .entry)) ⌝
-        }
+        ensures memory { λ _. ⌜ now (memory .exit) ≡
+            written (nth (held (now (self .entry))) i) (now (memory .entry)) ⌝ }
     {
         if i >= self.count {
             return None;
@@ -87,9 +84,8 @@ impl Ring {
 
     // Takes off the newest frame, where there is one.
     pub(crate) fn drop_newest(&mut self)
-        ensures held {
-            λ _. ⌜ held (now (self .exit)) ≡ take (length (held (now (self .entry))) - 1) (held (now (self .entry))) ⌝
-        }
+        ensures held { λ _. ⌜ held (now (self .exit)) ≡
+            take (length (held (now (self .entry))) - 1) (held (now (self .entry))) ⌝ }
         ensures room { λ _. ⌜ room (now (self .exit)) ≡ room (now (self .entry)) ⌝ }
     {
         if self.count > 0 {

@@ -1,7 +1,8 @@
 ghost use Prim.Native.Nat.{_≤_};
-ghost use lib.ListN.{length, drop};
-ghost use mathlib.Core.List.{_++_};
+ghost use lib.ListN.{length};
 ghost use mathlib.Core.Path.{_≡_};
+ghost use Rattle.std.specs.declared.option.Option.the-variants.{Some};
+ghost use Rattle.transport.specs.Calls.{written};
 ghost use Rattle.transport.specs.Meaning.{Sized};
 ghost use Rattle.transport.specs.Stored.{content};
 use super::Slot;
@@ -29,9 +30,8 @@ impl Slot {
     pub(crate) fn load(&self, memory: &mut [u8]) -> usize
         requires { ⌜ 800 ≤ length (now memory) ⌝ }
         ensures answer { λ r. ⌜ r ≡ length (content (now (self .entry))) ⌝ }
-        ensures memory {
-            λ _. ⌜ now (memory .exit) ≡ content (now (self .entry)) ++ drop (length (content (now (self .entry)))) (now (memory .entry)) ⌝
-        }
+        ensures memory { λ _. ⌜ now (memory .exit) ≡
+            written (Some (content (now (self .entry)))) (now (memory .entry)) ⌝ }
     {
         copy_front(memory, &self.bytes[0..self.len]);
         self.len
@@ -41,7 +41,7 @@ impl Slot {
 // Writes one slice over the front of another.
 fn copy_front(to: &mut [u8], from: &[u8])
     requires { ⌜ length (now from) ≤ length (now to) ⌝ }
-    ensures { λ _. ⌜ now (to .exit) ≡ now (from .entry) ++ drop (length (now (from .entry))) (now (to .entry)) ⌝ }
+    ensures { λ _. ⌜ now (to .exit) ≡ written (Some (now (from .entry))) (now (to .entry)) ⌝ }
 {
     let n = from.len();
     to[0..n].copy_from_slice(from);

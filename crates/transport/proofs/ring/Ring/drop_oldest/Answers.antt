@@ -7,5 +7,6 @@ use Rattle.transport.proofs.ring.Ring.drop_oldest.Needs as need
 
 pub returns-then-self-gt0 : need.returns-then-self-gt0
 returns-then-self-gt0 c =
-    let next = held-next (c .args .self .now) (c .place-self .result) (c .if-self-gt0 .taken) (c .place-self .ensures .slot) in
-    record { held = next; len = ap length next ∙ length-drop 1 (held (c .args .self .now)); room = refl }
+    let q = c .args .self .now in
+    let next = held-next q (c .place-self .result) (c .if-self-gt0 .taken) (c .place-self .ensures .slot) in
+    record { held = next; len = ap length next ∙ length-drop 1 (held q); room = refl }

@@ -4,4 +4,6 @@ use Rattle.std.proofs.shelf.Lists.{take-at}
 use Rattle.transport.proofs.slot.Slot.store.Needs as need
 
 pub returns : need.returns
-returns c = ap (take (length (c .args .frame .now))) (c .copy-front .ensures) ∙ take-at (c .args .frame .now) _ _ refl
+returns c =
+    let frame = c .args .frame .now in
+    ap (take (length frame)) (c .copy-front .ensures) ∙ take-at frame _ _ refl

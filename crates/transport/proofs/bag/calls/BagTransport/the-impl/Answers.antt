@@ -7,9 +7,11 @@ pub sized-law : need.sized-law
 sized-law t frame h = held-sized (t .frames) frame h
 
 pub put-tells : need.put-tells
-put-tells c = rw (c .ensures .answer, c .ensures .waiting) (bag-puts (in-bag (c .args .self .now)) (c .args .frame .now))
+put-tells c =
+    rw (c .ensures .answer, c .ensures .waiting)
+    (bag-puts (in-bag (c .args .self .now)) (c .args .frame .now))
 
 pub get-tells : need.get-tells
 get-tells c =
     rw (c .ensures .answer, c .ensures .waiting, c .ensures .memory)
-      (bag-gets (takes-next (c .args .self .now)) (in-bag (c .args .self .now)) (c .args .memory .now))
+    (bag-gets (takes-next (c .args .self .now)) (in-bag (c .args .self .now)) (c .args .memory .now))

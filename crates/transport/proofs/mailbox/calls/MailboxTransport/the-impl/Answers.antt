@@ -7,8 +7,11 @@ pub sized-law : need.sized-law
 sized-law t frame h = held-sized (t .frames) frame h
 
 pub put-tells : need.put-tells
-put-tells c = rw (c .ensures .answer, c .ensures .waiting) (mailbox-puts (in-mailbox (c .args .self .now)) (c .args .frame .now))
+put-tells c =
+    rw (c .ensures .answer, c .ensures .waiting)
+    (mailbox-puts (in-mailbox (c .args .self .now)) (c .args .frame .now))
 
 pub get-tells : need.get-tells
 get-tells c =
-    rw (c .ensures .answer, c .ensures .waiting, c .ensures .memory) (mailbox-gets (in-mailbox (c .args .self .now)) (c .args .memory .now))
+    rw (c .ensures .answer, c .ensures .waiting, c .ensures .memory)
+    (mailbox-gets (in-mailbox (c .args .self .now)) (c .args .memory .now))
