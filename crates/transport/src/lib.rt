@@ -13,6 +13,7 @@ pub use mailbox::Mailbox;
 pub use mailbox::MailboxTransport;
 pub use refusal::TransportRefusal;
 pub use refusal::TransportRefusalDebug;
+pub use refusal::TransportRefusalEq;
 pub use refusal::TransportRefusalPartialEq;
 pub use sizes::FRAME_MOST;
 pub use transport::Transport;
