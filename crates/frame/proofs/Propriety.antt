@@ -17,8 +17,8 @@ use Rattle.frame.specs.declared.fault.Fault.the-variants as fault
 use Rattle.frame.specs.declared.frame.Frame.{Frame}
 use Rattle.frame.specs.declared.frame.Frame.the-variants as frame
 use Rattle.frame.specs.declared.frame.Receipt.{Receipt}
-use Rattle.frame.specs.declared.numbers.Identifier.{Identifier}
-use Rattle.frame.specs.declared.numbers.Number.{Number}
+use Rattle.frame.specs.declared.identifier.Identifier.{Identifier}
+use Rattle.frame.specs.declared.number.Number.{Number}
 
 identified : (i : Identifier) → Is-identifier (i .value)
 identified i = (i .low, i .high)
