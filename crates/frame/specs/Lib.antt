@@ -1,0 +1,5 @@
+pub mod Bounds
+pub mod Ascending
+pub mod Listed
+pub mod Meanings
+pub mod Forms

@@ -1,0 +1,9 @@
+pub mod KindLaws
+pub mod Walks
+pub mod Paths
+pub mod Rows
+pub mod Words
+pub mod Fairness
+pub mod Ways
+pub mod Texts
+pub mod Theorem

@@ -1,0 +1,10 @@
+pub mod Refusals
+pub mod Names
+pub mod Cuts
+pub mod Tokens
+pub mod Tags
+pub mod Strips
+pub mod Numbers
+pub mod Values
+pub mod Attributes
+pub mod Hex
