@@ -91,3 +91,16 @@ Proper (close-sequence-response n rs c) = Is-receipt n rs c
 Proper (terminate-sequence n last) = Is-identifier n × Is-last last
 Proper (terminate-sequence-response n rs c) = Is-receipt n rs c
 Proper (sequence-fault f) = Is-fault f
+
+-- that a letter is made of bytes, which of all this the type of a frame does not tell by itself
+abbrev pub Letter-fits : Meaning → Type 0
+Letter-fits create-sequence = Unit {0}
+Letter-fits (create-sequence-response n) = Unit {0}
+Letter-fits (sequence n m bs) = All-bytes bs
+Letter-fits (ack-requested n) = Unit {0}
+Letter-fits (sequence-acknowledgement n rs final c) = Unit {0}
+Letter-fits (close-sequence n last) = Unit {0}
+Letter-fits (close-sequence-response n rs c) = Unit {0}
+Letter-fits (terminate-sequence n last) = Unit {0}
+Letter-fits (terminate-sequence-response n rs c) = Unit {0}
+Letter-fits (sequence-fault f) = Unit {0}

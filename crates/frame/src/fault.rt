@@ -1,4 +1,4 @@
-use crate::numbers::Identifier;
+use crate::identifier::Identifier;
 
 // What the office's end complains of, and the sequence that the complaint is about.
 #[derive(Clone, Copy)]

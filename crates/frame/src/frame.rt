@@ -3,8 +3,8 @@ ghost use Rattle.frame.specs.Forms.{form-of};
 ghost use Rattle.frame.specs.Meanings.{meaning};
 use crate::fault::Fault;
 use crate::form::Form;
-use crate::numbers::Identifier;
-use crate::numbers::Number;
+use crate::identifier::Identifier;
+use crate::number::Number;
 use crate::ranges::Ranges;
 use letter::Letter;
 

@@ -2,7 +2,8 @@
 mod fault;
 mod form;
 mod frame;
-mod numbers;
+mod identifier;
+mod number;
 mod range;
 mod ranges;
 
@@ -10,7 +11,7 @@ pub use fault::Fault;
 pub use form::Form;
 pub use frame::Frame;
 pub use frame::Receipt;
-pub use numbers::Identifier;
-pub use numbers::Number;
+pub use identifier::Identifier;
+pub use number::Number;
 pub use range::Range;
 pub use ranges::Ranges;

@@ -3,7 +3,7 @@ ghost use mathlib.Core.Path.{_≡_};
 ghost use Rattle.frame.specs.Listed.{listed};
 ghost use Rattle.frame.specs.Meanings as meant;
 ghost use Rattle.frame_reader.specs.Reading.{outcome, onward, Reads};
-ghost use Rattle.grammar.specs.Grammar.{ends, after-final, after-receipt, receipt-tree, sequence-tree, naming-tree, ending-tree, fault-tree, grammar};
+ghost use Rattle.grammar.specs.Grammar.{ends, after-final, after-receipt, receipt-tree, sequence-tree, naming-tree, ending-tree, fault-tree, grammar, reading};
 ghost use Rattle.pieces.specs.declared.names.Element.the-variants as element;
 use crate::reader::Reader;
 use frame::Frame;
@@ -14,7 +14,8 @@ use pieces::Tag;
 
 // The frame whose text the bytes are; else the place of the first piece that no form allows there.
 pub fn read(bytes: &[u8]) -> Result<Frame, ReadFault>
-    ensures { λ r. ⌜ Reads (now (bytes .entry)) r ⌝ }
+    ensures value { λ r. ⌜ outcome r ≡ reading (now (bytes .entry)) ⌝ }
+    ensures exact { λ r. ⌜ Reads (now (bytes .entry)) r ⌝ }
 {
     let mut reader = Reader {
         whole: bytes.len(),

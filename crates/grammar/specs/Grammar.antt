@@ -2,8 +2,10 @@
 use mathlib.Core.Bool.{Bool, true, false}
 use mathlib.Core.List.{List, [], _∷_, _++_}
 use Prim.Native.Nat.{ℕ, zero, suc}
+use lib.ListN.{length}
 use Rattle.std.specs.declared.option.Option.{Option}
 use Rattle.std.specs.declared.option.Option.the-variants.{Some, None}
+use Rattle.std.specs.declared.result.Result.{Result}
 use Rattle.frame.specs.Meanings.{Meaning, create-sequence, create-sequence-response, sequence, ack-requested, sequence-acknowledgement, close-sequence, close-sequence-response, terminate-sequence, terminate-sequence-response, sequence-fault}
 use Rattle.frame.specs.Meanings.{Fault-meaning, unknown-sequence, sequence-terminated, sequence-closed, create-sequence-refused}
 use Rattle.frame.specs.declared.range.Range.{Range}
@@ -15,7 +17,7 @@ use Rattle.pieces.specs.declared.token.Tag.{Tag}
 use Rattle.pieces.specs.declared.token.Tag.the-variants as tag
 use Rattle.grammar.specs.Kinds.{Kind, Value, identifier, again, number, range-behind, letter, fault-code}
 use Rattle.grammar.specs.Kinds as kind
-use Rattle.grammar.specs.Trees.{Tree, stop, whole, reads}
+use Rattle.grammar.specs.Trees.{Tree, stop, whole, reads, walk}
 
 -- a part of a text, given what comes behind it
 abbrev pub Part : Type 0 → Type 0
@@ -115,9 +117,22 @@ abbrev pub grammar : Tree
 grammar =
     tagged (tag.Empty element.CreateSequence) (ends create-sequence)
     (tagged (tag.Open element.CreateSequenceResponse) (naming-tree element.CreateSequenceResponse create-sequence-response)
+<<<<<<< HEAD
     (tagged (tag.Open element.Sequence) sequence-tree
     (tagged (tag.Open element.AckRequested) (naming-tree element.AckRequested ack-requested)
     (tagged (tag.Open element.SequenceAcknowledgement) receipt-tree
     (tagged (tag.Open element.CloseSequence) (ending-tree element.CloseSequence close-sequence)
     (tagged (tag.Open element.TerminateSequence) (ending-tree element.TerminateSequence terminate-sequence)
     (tagged (tag.Open element.SequenceFault) fault-tree stop)))))))
+=======
+      (tagged (tag.Open element.Sequence) sequence-tree
+        (tagged (tag.Open element.AckRequested) (naming-tree element.AckRequested ack-requested)
+          (tagged (tag.Open element.SequenceAcknowledgement) receipt-tree
+            (tagged (tag.Open element.CloseSequence) (ending-tree element.CloseSequence close-sequence)
+              (tagged (tag.Open element.TerminateSequence) (ending-tree element.TerminateSequence terminate-sequence)
+                (tagged (tag.Open element.SequenceFault) fault-tree stop)))))))
+
+-- what these bytes read as: what the frame says, or the place of the refusal
+abbrev pub reading : List ℕ → Result Meaning ℕ
+reading bs = walk (length bs) grammar bs
+>>>>>>> main

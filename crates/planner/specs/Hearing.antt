@@ -5,6 +5,8 @@ use Prim.Native.Nat.{ℕ}
 use lib.Dec.{eqb, leb}
 use Rattle.std.specs.declared.option.Option.{Option}
 use Rattle.std.specs.declared.option.Option.the-variants.{Some, None}
+use Rattle.std.specs.declared.result.Result.{Result}
+use Rattle.std.specs.declared.result.Result.the-variants.{Ok, Err}
 use Rattle.frame.specs.Forms.{form-of}
 use Rattle.frame.specs.Meanings.{
   Meaning,
@@ -123,3 +125,8 @@ if-held (Some n) s then = cond (is-held (s .held) n) then (refuses s (refusal.Id
 
 abbrev pub hears : Meaning → Source → Acted Form
 hears m s = if-held (about m) s (heeds m s)
+
+-- bytes that are no frame are refused at the reader's place, and change nothing
+abbrev pub hears-read : Result Meaning ℕ → Source → Acted Form
+hears-read (Ok m) s = hears m s
+hears-read (Err place) s = refuses s (refusal.Reader (record { place = place }))

@@ -3,7 +3,7 @@ use mathlib.Core.Bool.{Bool, true}
 use Prim.Native.Nat.{ℕ}
 use Rattle.std.specs.Options.{isSome}
 use Rattle.std.specs.declared.option.Option.{Option}
-use Rattle.frame.specs.declared.numbers.Identifier.{Identifier}
+use Rattle.frame.specs.declared.identifier.Identifier.{Identifier}
 use Rattle.planner.specs.declared.state.PlannerState.{PlannerState}
 use Rattle.planner.specs.declared.state.PlannerState.the-variants as state
 

@@ -10,6 +10,7 @@ pub use draft::Draft;
 pub use planner::Planner;
 pub use planner::Sent;
 pub use refusal::PlannerRefusal;
+pub use refusal::PlannerRefusalFrom;
 pub use settings::Settings;
 pub use settings::SettingsRefusal;
 pub use state::PlannerState;

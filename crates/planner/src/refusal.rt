@@ -1,5 +1,6 @@
 ghost use mathlib.Core.Path.{_≡_};
 ghost use Rattle.planner.specs.Refusals.{refusal-number};
+ghost use Rattle.planner.specs.declared.refusal.PlannerRefusal.the-variants.{Reader};
 use crate::state::PlannerState;
 use pieces::ReadFault;
 
@@ -20,6 +21,15 @@ pub enum PlannerRefusal {
     Identifier(u32),
     // hear: a receipt for a number that was never written, the first such Upper
     Upper(u64),
+}
+
+// A fault of the reader is passed on whole.
+pub impl From<ReadFault> for PlannerRefusal as PlannerRefusalFrom {
+    ghost converts = { λ fault r. r ≡ Reader fault };
+
+    fn from(fault: ReadFault) -> PlannerRefusal {
+        PlannerRefusal::Reader(fault)
+    }
 }
 
 impl PlannerRefusal {

@@ -2,9 +2,10 @@ ghost use mathlib.Core.Bool.{true};
 ghost use mathlib.Core.Path.{_≡_};
 ghost use Rattle.frame.specs.Forms.{form-of};
 ghost use Rattle.frame.specs.Listed.{listed};
-ghost use Rattle.frame.specs.declared.numbers.Identifier.{Identifier};
+ghost use Rattle.frame.specs.declared.identifier.Identifier.{Identifier};
 ghost use Rattle.frame.specs.Meanings.{meaning, fault-meaning};
-ghost use Rattle.planner.specs.Hearing.{about, about-fault, after-fault, created, if-creating, heeds, hears, is-held, once-closed, once-ended, takes};
+ghost use Rattle.grammar.specs.Grammar.{reading};
+ghost use Rattle.planner.specs.Hearing.{about, about-fault, after-fault, created, if-creating, heeds, hears, hears-read, is-held, once-closed, once-ended, takes};
 ghost use Rattle.planner.specs.Sources.{acted, source-of};
 ghost use Rattle.planner.specs.States.{named};
 ghost use Rattle.std.specs.Options.{mapped};
@@ -15,14 +16,25 @@ use super::receipts::mark_all;
 use super::receipts::slide;
 use super::receipts::upper_above;
 use crate::refusal::PlannerRefusal;
+use crate::refusal::PlannerRefusalFrom;
 use crate::state::PlannerState;
 use frame::Fault;
 use frame::Form;
 use frame::Frame;
 use frame::Identifier;
 use frame::Receipt;
+use frame_reader::read;
 
 impl Planner {
+    // Hears the bytes that came back, whatever they are: answers the form of the frame that they are.
+    pub fn hear(&mut self, bytes: &[u8]) -> Result<Form, PlannerRefusal>
+        ensures { λ r. ⌜ acted (now (self .exit)) r ≡
+            hears-read (reading (now (bytes .entry))) (source-of (now (self .entry))) ⌝ }
+    {
+        let frame = read(bytes)?;
+        self.hear_frame(frame)
+    }
+
     // Heeds a frame that came back; refuses one about another sequence.
     fn hear_frame(&mut self, frame: Frame) -> Result<Form, PlannerRefusal>
         ensures { λ r. ⌜ acted (now (self .exit)) r ≡ hears (meaning frame) (source-of (now (self .entry))) ⌝ }

@@ -3,4 +3,8 @@ use Rattle.frame_reader.proofs.Answered.{reads}
 use Rattle.frame_reader.proofs.forms.read.Needs as need
 
 pub returns : need.returns
-returns c = reads (now (c .args .bytes)) (c .frame .result) (c .frame .ensures)
+returns c =
+    record {
+      value = c .frame .ensures;
+      exact = reads (now (c .args .bytes)) (c .frame .result) (c .frame .ensures);
+    }

@@ -1,15 +1,7 @@
 ghost use Prim.Native.Nat.{_≤_};
 ghost use mathlib.Core.Path.{_≡_};
 ghost use Rattle.std.specs.Options.{mapped};
-ghost use Rattle.frame.specs.Bounds.{identifier-of, number-of};
-
-// The identifier of a sequence, 1 to 4,294,967,295.
-#[derive(Clone, Copy)]
-pub struct Identifier {
-    value: u32,
-    ghost low: { 1 ≤ value },
-    ghost high: { value ≤ 4294967295 },
-}
+ghost use Rattle.frame.specs.Bounds.{number-of};
 
 // A message number or a credit, 1 to 9,223,372,036,854,775,807.
 #[derive(Clone, Copy)]
@@ -17,26 +9,6 @@ pub struct Number {
     value: u64,
     ghost low: { 1 ≤ value },
     ghost high: { value ≤ 9223372036854775807 },
-}
-
-impl Identifier {
-    // The identifier of this value; none where it is out of bounds.
-    pub fn new(value: u64) -> Option<Identifier>
-        ensures { λ r. ⌜ mapped (λ i. i .value) r ≡ identifier-of value ⌝ }
-    {
-        if value < 1 || value > 4_294_967_295 {
-            return None;
-        }
-        Some(Identifier {
-            value: value as u32,
-        })
-    }
-
-    pub fn get(self) -> u32
-        ensures { λ r. ⌜ r ≡ self .value ⌝ }
-    {
-        self.value
-    }
 }
 
 impl Number {

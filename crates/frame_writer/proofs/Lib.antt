@@ -1,0 +1,4 @@
+pub mod Joins
+pub mod Written
+pub mod Lengths
+pub mod Whole

@@ -1,0 +1,6 @@
+// Writing frames.
+mod buffer;
+mod forms;
+mod parts;
+
+pub use forms::write;

@@ -1,0 +1,8 @@
+pub mod Outcomes
+pub mod Keeps
+pub mod Lengths
+mod Exact
+mod Rings
+mod Holds
+mod Mailboxes
+mod Bags
