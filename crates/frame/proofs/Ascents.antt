@@ -31,7 +31,7 @@ follows-parts xs x h =
     (ltb-true _ _ (p .0), p .1)
 
 pub ascending-push : (low : ℕ) (xs : List Range) (x : Range) → ascending low xs ≡ true → starts-at (next-low low xs) x ≡ true
-    → ascending low (xs ++ (x ∷ [])) ≡ true
+  → ascending low (xs ++ (x ∷ [])) ≡ true
 ascending-push low [] x a s = and-from (starts-at low x) true s refl
 ascending-push low (y ∷ xs) x a s =
     let p = and-parts (starts-at low y) (ascending (y .upper + 2) xs) a in

@@ -20,38 +20,15 @@ pub struct Receipt {
 #[derive(Clone, Copy)]
 pub enum Frame {
     CreateSequence,
-    CreateSequenceResponse {
-        identifier: Identifier,
-    },
-    Sequence {
-        identifier: Identifier,
-        number: Number,
-        letter: Letter,
-    },
-    AckRequested {
-        identifier: Identifier,
-    },
-    SequenceAcknowledgement {
-        receipt: Receipt,
-        is_final: bool,
-    },
-    CloseSequence {
-        identifier: Identifier,
-        last: Option<Number>,
-    },
-    CloseSequenceResponse {
-        receipt: Receipt,
-    },
-    TerminateSequence {
-        identifier: Identifier,
-        last: Option<Number>,
-    },
-    TerminateSequenceResponse {
-        receipt: Receipt,
-    },
-    SequenceFault {
-        fault: Fault,
-    },
+    CreateSequenceResponse { identifier: Identifier },
+    Sequence { identifier: Identifier, number: Number, letter: Letter },
+    AckRequested { identifier: Identifier },
+    SequenceAcknowledgement { receipt: Receipt, is_final: bool },
+    CloseSequence { identifier: Identifier, last: Option<Number> },
+    CloseSequenceResponse { receipt: Receipt },
+    TerminateSequence { identifier: Identifier, last: Option<Number> },
+    TerminateSequenceResponse { receipt: Receipt },
+    SequenceFault { fault: Fault },
 }
 
 impl Frame {

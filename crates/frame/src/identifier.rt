@@ -19,9 +19,7 @@ impl Identifier {
         if value < 1 || value > 4_294_967_295 {
             return None;
         }
-        Some(Identifier {
-            value: value as u32,
-        })
+        Some(Identifier { value: value as u32 })
     }
 
     pub fn get(self) -> u32

@@ -16,9 +16,9 @@ use Rattle.frame_reader.specs.Reading.{outcome, Reads}
 pub reads : (bs : List ℕ) (r : Result Frame ReadFault) → outcome r ≡ walk (length bs) grammar bs → Reads bs r
 reads bs (Ok f) e = record {
   answer = sound bs (meaning f) (sym e);
-  exact = λ m h t. e ∙ (ap (walk (length bs) grammar) (sym t) ∙ complete (length bs) m h);
+  exact = λ m h t. e ∙ (ap (walk (length bs) grammar) (sym t) ∙ complete (length bs) m h)
 }
 reads bs (Err d) e = record {
   answer = refused bs (d .place) (sym e);
-  exact = λ m h t. absurd (refused bs (d .place) (sym e) .none m h t);
+  exact = λ m h t. absurd (refused bs (d .place) (sym e) .none m h t)
 }

@@ -51,7 +51,7 @@ use Rattle.frame_reader.specs.declared.reader.Words.{Words}
 
 -- a piece of the kind is next, or none
 pub on-read : (κ : Kind) (a : Value κ) (end : ℕ) (bs rest : List ℕ) → reader κ (piece bs) ≡ Some a → rest ≡ after bs
-    → (k : Value κ → Tree) (h : Tree) → walk end (reads κ k h) bs ≡ walk end (k a) rest
+  → (k : Value κ → Tree) (h : Tree) → walk end (reads κ k h) bs ≡ walk end (k a) rest
 on-read κ a end bs rest e f k h = walk-read end bs κ a k h e ∙ ap (walk end (k a)) (sym f)
 
 end-read : (κ : Kind) (bs : List ℕ) → length bs ≡ 0 → reader κ (piece bs) ≡ None
@@ -143,14 +143,14 @@ no-words bs x f n =
 
 module _ (κ : Kind) (end : ℕ) (bs : List ℕ) where
   pub text-on : (v : Value κ) (w : Words) → Is-text bs w → reader κ (now (w .text)) ≡ Some v
-      → (k : Value κ → Tree) → walk end (one κ k) bs ≡ walk end (k v) (now (w .rest))
+    → (k : Value κ → Tree) → walk end (one κ k) bs ≡ walk end (k v) (now (w .rest))
   text-on v w t e k = on-read κ v end bs (now (w .rest)) (ap (reader κ) (sym (t .text)) ∙ e) (t .rest) k stop
 
   off-read : (place : ℕ) → reader κ (piece bs) ≡ None → place ≡ end - length bs → (k : Value κ → Tree) → walk end (one κ k) bs ≡ Err place
   off-read place e p k = walk-none end bs κ k stop e ∙ (walk-stop end bs ∙ ap Err (sym p))
 
   pub text-off : (w : Words) (place : ℕ) → Is-text bs w → reader κ (now (w .text)) ≡ None → place ≡ end - length bs
-      → (k : Value κ → Tree) → walk end (one κ k) bs ≡ Err place
+    → (k : Value κ → Tree) → walk end (one κ k) bs ≡ Err place
   text-off w place t e p k = off-read place (ap (reader κ) (sym (t .text)) ∙ e) p k
 
   pub text-missing : (h : Textual κ) (e : ReadFault) → No-text end bs e → (k : Value κ → Tree) → walk end (one κ k) bs ≡ Err (e .place)
@@ -169,12 +169,12 @@ again-off n p h f = cond-false _ _ _ (not-same p (urn ++ decimal n) (λ e. f (ap
 module _ (rs : List Range) (bs : List ℕ) where
   pub other-tag : (x : Lexed) → First bs x → ((s : RefT (List ℕ)) → x .token ≡ Empty s → ⊥) → reader (range-behind rs) (piece bs) ≡ None
   other-tag x f n =
-      elim (cases-option (reader (range-behind rs) (piece bs))) [
-        | inl e ↦ e
-        | inr m ↦
-            let q = reader-is (range-behind rs) (m .0) (piece bs) (m .1) in
-            let t = empty-tag (x .token) (f .shaped ∙ (ap shape (q .0) ∙ range-shaped (m .0))) in
-            absurd (n (t .0) (t .1))
+      elim (cases-option (reader (range-behind rs) (piece bs)))
+      [ inl e ↦ e
+      | inr m ↦
+        let q = reader-is (range-behind rs) (m .0) (piece bs) (m .1) in
+        let t = empty-tag (x .token) (f .shaped ∙ (ap shape (q .0) ∙ range-shaped (m .0))) in
+        absurd (n (t .0) (t .1))
       ]
 
   pub range-off : reader (range-behind rs) (piece bs) ≡ None → (end : ℕ) (k : Range → Tree) (h : Tree) → walk end (reads (range-behind rs) k h) bs ≡ walk end h bs
@@ -195,37 +195,37 @@ module _ (rs : List Range) (bs : List ℕ) where
 -- the loop over ranges
 module _ (a b : Reader) (rs rs' : List Range) where
   step : (k : List Range → Tree) → length rs < 5
-      → more-ranges (5 - length rs) rs k ≡ reads (range-behind rs) (λ x. more-ranges (5 - (length rs + 1)) (rs ++ (x ∷ [])) k) (k rs)
+    → more-ranges (5 - length rs) rs k ≡ reads (range-behind rs) (λ x. more-ranges (5 - (length rs + 1)) (rs ++ (x ∷ [])) k) (k rs)
   step k l = let e : 5 - length rs ≡ suc (5 - (length rs + 1)) = omega arith in ap (λ i. more-ranges i rs k) e
 
   pub more-on : Took-range a b rs rs' → (k : List Range → Tree)
-      → onward a (more-ranges (5 - length rs) rs k) ≡ onward b (more-ranges (5 - length rs') rs' k)
+    → onward a (more-ranges (5 - length rs) rs k) ≡ onward b (more-ranges (5 - length rs') rs' k)
   more-on t k =
       ap (onward a) (step k (t .room)) ∙
       (t .way (λ ys. more-ranges (5 - (length rs + 1)) ys k) (k rs) ∙
-      ap (λ n. onward b (more-ranges (5 - n) rs' k)) (sym (t .more)))
+        ap (λ n. onward b (more-ranges (5 - n) rs' k)) (sym (t .more)))
 
   pub more-off : No-range a b rs rs' → (k : List Range → Tree) → onward a (more-ranges (5 - length rs) rs k) ≡ onward b (k rs')
   more-off t k =
-      elim (cases-lt (length rs) 5) [
-        | inl l ↦
-            ap (onward a) (step k l) ∙
-            (t .way (λ ys. more-ranges (5 - (length rs + 1)) ys k) (k rs) ∙ ap (λ ys. onward b (k ys)) (sym (t .same)))
-        | inr l ↦
-            let e : 5 - length rs ≡ 0 = omega arith in
-            ap (λ i. onward a (more-ranges i rs k)) e ∙ (t .stays (k rs) ∙ ap (λ ys. onward b (k ys)) (sym (t .same)))
+      elim (cases-lt (length rs) 5)
+      [ inl l ↦
+        ap (onward a) (step k l) ∙
+        (t .way (λ ys. more-ranges (5 - (length rs + 1)) ys k) (k rs) ∙ ap (λ ys. onward b (k ys)) (sym (t .same)))
+      | inr l ↦
+        let e : 5 - length rs ≡ 0 = omega arith in
+        ap (λ i. onward a (more-ranges i rs k)) e ∙ (t .stays (k rs) ∙ ap (λ ys. onward b (k ys)) (sym (t .same)))
       ]
 
   -- the first range
   pub first-on : rs ≡ [] → Took-range a b rs rs' → (k : List Range → Tree)
-      → onward a (one (range-behind []) (λ x. more-ranges 4 (x ∷ []) k)) ≡ onward b (more-ranges (5 - length rs') rs' k)
+    → onward a (one (range-behind []) (λ x. more-ranges 4 (x ∷ []) k)) ≡ onward b (more-ranges (5 - length rs') rs' k)
   first-on e t k =
       let n : 4 ≡ 5 - length rs' = omega (arith, t .more, ap length e) in
       ap (λ ys. onward a (reads (range-behind ys) (λ x. more-ranges 4 (ys ++ (x ∷ [])) k) stop)) (sym e) ∙
       (t .way (λ ys. more-ranges 4 ys k) stop ∙ ap (λ i. onward b (more-ranges i rs' k)) n)
 
   pub first-off : rs ≡ [] → No-range a b rs rs' → (k : List Range → Tree)
-      → onward a (one (range-behind []) (λ x. more-ranges 4 (x ∷ []) k)) ≡ Err (b .whole - length (now (b .rest)))
+    → onward a (one (range-behind []) (λ x. more-ranges 4 (x ∷ []) k)) ≡ Err (b .whole - length (now (b .rest)))
   first-off e t k =
       ap (λ ys. onward a (reads (range-behind ys) (λ x. more-ranges 4 (ys ++ (x ∷ [])) k) stop)) (sym e) ∙
       (t .way (λ ys. more-ranges 4 ys k) stop ∙ walk-stop (b .whole) (now (b .rest)))

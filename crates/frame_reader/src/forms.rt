@@ -17,10 +17,7 @@ pub fn read(bytes: &[u8]) -> Result<Frame, ReadFault>
     ensures value { λ r. ⌜ outcome r ≡ reading (now (bytes .entry)) ⌝ }
     ensures exact { λ r. ⌜ Reads (now (bytes .entry)) r ⌝ }
 {
-    let mut reader = Reader {
-        whole: bytes.len(),
-        rest: bytes,
-    };
+    let mut reader = Reader { whole: bytes.len(), rest: bytes };
     reader.frame()
 }
 
@@ -60,11 +57,7 @@ impl Reader<'_> {
     fn ended(&self, frame: Frame) -> Result<Frame, ReadFault>
         ensures { λ r. ⌜ outcome r ≡ onward (now (self .entry)) (ends (meant.meaning frame)) ⌝ }
     {
-        if self.rest.is_empty() {
-            Ok(frame)
-        } else {
-            Err(self.fault())
-        }
+        if self.rest.is_empty() { Ok(frame) } else { Err(self.fault()) }
     }
 
     fn create_sequence_response(&mut self) -> Result<Frame, ReadFault>
@@ -85,11 +78,7 @@ impl Reader<'_> {
         self.expect(Tag::Open(Element::Letter))?;
         let letter = self.letter_text()?;
         self.expect(Tag::Close(Element::Letter))?;
-        self.ended(Frame::Sequence {
-            identifier,
-            number,
-            letter,
-        })
+        self.ended(Frame::Sequence { identifier, number, letter })
     }
 
     fn ack_requested(&mut self) -> Result<Frame, ReadFault>
@@ -108,14 +97,7 @@ impl Reader<'_> {
         let ranges = self.ranges()?;
         let is_final = self.is_final();
         let credit = self.credit()?;
-        self.after_receipt(
-            Receipt {
-                identifier,
-                ranges,
-                credit,
-            },
-            is_final,
-        )
+        self.after_receipt(Receipt { identifier, ranges, credit }, is_final)
     }
 
     fn after_receipt(&mut self, receipt: Receipt, is_final: bool) -> Result<Frame, ReadFault>

@@ -4,10 +4,10 @@ ghost use Prim.Native.Nat.{_-_};
 ghost use lib.ListN.{length};
 ghost use Rattle.frame_reader.specs.Reading.{Passes, Takes, Next-text};
 ghost use Rattle.grammar.specs.Grammar.{only};
+use pieces::lex;
 use pieces::ReadFault;
 use pieces::Tag;
 use pieces::Token;
-use pieces::lex;
 
 // What is left of a frame of `whole` bytes.
 #[derive(Clone, Copy)]
@@ -28,9 +28,7 @@ impl<'a> Reader<'a> {
     pub(crate) fn fault(&self) -> ReadFault
         ensures { λ r. ⌜ r .place ≡ now (self .entry) .whole - length (now (now (self .entry) .rest)) ⌝ }
     {
-        ReadFault {
-            place: self.whole.saturating_sub(self.rest.len()),
-        }
+        ReadFault { place: self.whole.saturating_sub(self.rest.len()) }
     }
 
     // Takes the tag if it comes next, and answers whether it did.
@@ -53,11 +51,7 @@ impl<'a> Reader<'a> {
     pub(crate) fn expect(&mut self, tag: Tag) -> Result<(), ReadFault>
         ensures { λ r. ⌜ Passes (only tag) (now (self .entry)) (now (self .exit)) r ⌝ }
     {
-        if self.takes(tag) {
-            Ok(())
-        } else {
-            Err(self.fault())
-        }
+        if self.takes(tag) { Ok(()) } else { Err(self.fault()) }
     }
 
     // The next piece, which has to be a text.
@@ -68,9 +62,6 @@ impl<'a> Reader<'a> {
         let Token::Text(text) = lexed.token else {
             return Err(self.fault());
         };
-        Ok(Words {
-            text,
-            rest: lexed.rest,
-        })
+        Ok(Words { text, rest: lexed.rest })
     }
 }

@@ -14,15 +14,15 @@ use frame::Identifier;
 use frame::Number;
 use frame::Ranges;
 use letter::Letter;
-use pieces::FaultCode;
-use pieces::ReadFault;
-use pieces::Token;
 use pieces::lex;
 use pieces::read_fault_code;
 use pieces::read_identifier;
 use pieces::read_letter;
 use pieces::read_number;
 use pieces::read_range;
+use pieces::FaultCode;
+use pieces::ReadFault;
+use pieces::Token;
 
 impl Reader<'_> {
     pub(crate) fn identifier_text(&mut self) -> Result<Identifier, ReadFault>

@@ -69,8 +69,8 @@ fair-only t g ps f = fair-tag t g stop ps f none
 
 -- one piece in its element
 fair-within : (κ : Kind) (e : Element) (k : Value κ → Tree) (ps : Words) (a : Value κ) → Good κ a
-    → ((a : Value κ) → Good κ a → Fair (((ps ++ (open-word e ∷ [])) ++ (spell κ a ∷ [])) ++ (close-word e ∷ [])) (k a))
-    → Fair ps (within e (one κ) k)
+  → ((a : Value κ) → Good κ a → Fair (((ps ++ (open-word e ∷ [])) ++ (spell κ a ∷ [])) ++ (close-word e ∷ [])) (k a))
+  → Fair ps (within e (one κ) k)
 fair-within κ e k ps a g f =
     fair-only (tag.Open e) _ ps (fair-reads κ _ stop _ (λ b h. fair-only (tag.Close e) (k b) _ (f b h)) a g none)
 
@@ -81,30 +81,30 @@ first-number : Is-number 1
 first-number = (lit≤ tt, lit≤ tt)
 
 fair-identifier : (k : ℕ → Tree) (ps : Words)
-    → ((n : ℕ) → Is-identifier n → Fair (ps ++ identifier-words n []) (k n)) → Fair ps (identifier-part k)
+  → ((n : ℕ) → Is-identifier n → Fair (ps ++ identifier-words n []) (k n)) → Fair ps (identifier-part k)
 fair-identifier k ps f =
     fair-within identifier element.Identifier k ps 1 first-identifier
     (λ n h. subst (λ qs. Fair qs (k n)) (simp append-assoc) (f n h))
 
 fair-naming : (e : Element) (make : ℕ → Meaning) → ((n : ℕ) → Is-identifier n → Proper (make n))
-    → ((n : ℕ) → wording (make n) ≡ naming-words e n []) → Fair (open-word e ∷ []) (naming-tree e make)
+  → ((n : ℕ) → wording (make n) ≡ naming-words e n []) → Fair (open-word e ∷ []) (naming-tree e make)
 fair-naming e make p w =
     fair-identifier _ (open-word e ∷ []) (λ n h. fair-only (tag.Close e) _ _ (fair-ends _ (make n) (p n h) (w n)))
 
 fair-ending : (e : Element) (make : ℕ → Option ℕ → Meaning)
-    → ((n : ℕ) (last : Option ℕ) → Is-identifier n → Is-last last → Proper (make n last))
-    → ((n : ℕ) (last : Option ℕ) → wording (make n last) ≡ ending-words e n last) → Fair (open-word e ∷ []) (ending-tree e make)
+  → ((n : ℕ) (last : Option ℕ) → Is-identifier n → Is-last last → Proper (make n last))
+  → ((n : ℕ) (last : Option ℕ) → wording (make n last) ≡ ending-words e n last) → Fair (open-word e ∷ []) (ending-tree e make)
 fair-ending e make p w =
     fair-identifier _ (open-word e ∷ []) (λ n h.
-    fair-tag (tag.Open element.LastMsgNumber) _ _ _
-    (fair-reads number _ stop _
-    (λ m i. fair-only (tag.Close element.LastMsgNumber) _ _
-    (fair-only (tag.Close e) _ _ (fair-ends _ (make n (Some m)) (p n (Some m) h i) (w n (Some m))))) 1 first-number none)
-    (fit (fair-only (tag.Close e) _ _ (fair-ends _ (make n None) (p n None h tt) (w n None)))))
+      fair-tag (tag.Open element.LastMsgNumber) _ _ _
+      (fair-reads number _ stop _
+        (λ m i. fair-only (tag.Close element.LastMsgNumber) _ _
+          (fair-only (tag.Close e) _ _ (fair-ends _ (make n (Some m)) (p n (Some m) h i) (w n (Some m))))) 1 first-number none)
+      (fit (fair-only (tag.Close e) _ _ (fair-ends _ (make n None) (p n None h tt) (w n None)))))
 
 -- behind the ranges of a receipt
 fair-response : (e : Element) (n : ℕ) (m : Meaning) (ps : Words) → Proper m → wording m ≡ ps ++ naming-words e n []
-    → Fair (ps ++ (open-word e ∷ [])) (again-part n (only (tag.Close e) (ends m)))
+  → Fair (ps ++ (open-word e ∷ [])) (again-part n (only (tag.Close e) (ends m)))
 fair-response e n m ps p w =
     fair-within (again n) element.Identifier _ _ tt tt (λ _ _. fair-only (tag.Close e) _ _ (fair-ends _ m p (w ∙ simp append-assoc)))
 
@@ -113,24 +113,24 @@ unfolding Proper
 fit-final n rs c h =
     let ps = receipt-words n rs true c [] in
     fit (fair-tag (tag.Open element.CloseSequenceResponse) _ _ ps
-    (fair-response element.CloseSequenceResponse n (close-sequence-response n rs c) ps h (simp append-assoc))
-    (fit (fair-tag (tag.Open element.TerminateSequenceResponse) _ stop ps
-    (fair-response element.TerminateSequenceResponse n (terminate-sequence-response n rs c) ps h (simp append-assoc)) none)))
+      (fair-response element.CloseSequenceResponse n (close-sequence-response n rs c) ps h (simp append-assoc))
+      (fit (fair-tag (tag.Open element.TerminateSequenceResponse) _ stop ps
+        (fair-response element.TerminateSequenceResponse n (terminate-sequence-response n rs c) ps h (simp append-assoc)) none)))
 
 fair-credit : (k : ℕ → Tree) (ps : Words)
-    → ((c : ℕ) → Is-number c → Fair ((((ps ++ (open-word element.Credit ∷ [])) ++ (decimal c ∷ [])) ++ (close-word element.Credit ∷ [])) ++ (close-word element.SequenceAcknowledgement ∷ [])) (k c))
-    → Fair ps (credit-part k)
+  → ((c : ℕ) → Is-number c → Fair ((((ps ++ (open-word element.Credit ∷ [])) ++ (decimal c ∷ [])) ++ (close-word element.Credit ∷ [])) ++ (close-word element.SequenceAcknowledgement ∷ [])) (k c))
+  → Fair ps (credit-part k)
 fair-credit k ps f =
     fair-within number element.Credit _ ps 1 first-number (λ c h. fair-only (tag.Close element.SequenceAcknowledgement) (k c) _ (f c h))
 
 fair-behind : (n : ℕ) (rs : List Range) → Is-identifier n → length rs ≤ 5 → ascending 1 rs ≡ true
-    → Fair (head-words n rs) (after-ranges n rs)
+  → Fair (head-words n rs) (after-ranges n rs)
 unfolding Proper
 fair-behind n rs i l a =
     fair-tag (tag.Empty element.Final) _ _ (head-words n rs)
     (fair-credit _ _ (λ c h.
-    fair-whole _ (sequence-acknowledgement n rs true c) _ (i, l, a, h) (simp append-assoc)
-    (subst (λ ps. Fit ps (after-final n rs c)) (simp append-assoc) (fit-final n rs c (i, l, a, h)))))
+      fair-whole _ (sequence-acknowledgement n rs true c) _ (i, l, a, h) (simp append-assoc)
+      (subst (λ ps. Fit ps (after-final n rs c)) (simp append-assoc) (fit-final n rs c (i, l, a, h)))))
     (fit (fair-credit _ (head-words n rs) (λ c h. fair-ends _ (sequence-acknowledgement n rs false c) (i, l, a, h) (simp append-assoc))))
 
 -- the ranges
@@ -138,47 +138,47 @@ words-push : (r : Range) (rs : List Range) (x : Range) → ranges-words ((r ∷ 
 words-push r rs x = map-push range-text (r ∷ rs) x
 
 fair-more : (n : ℕ) → Is-identifier n → (i : ℕ) (r : Range) (rs : List Range) → length (r ∷ rs) ≤ 5 → ascending 1 (r ∷ rs) ≡ true
-    → Fair (head-words n (r ∷ rs)) (more-ranges i (r ∷ rs) (after-ranges n))
+  → Fair (head-words n (r ∷ rs)) (more-ranges i (r ∷ rs) (after-ranges n))
 fair-more n h zero r rs l a = fair-behind n (r ∷ rs) h l a
 fair-more n h (suc i) r rs l a =
     fair-else (range-behind (r ∷ rs)) _ _ (head-words n (r ∷ rs))
     (λ x g.
-    let f = follows-parts (r ∷ rs) x g in
-    subst (λ ps. Fair ps (more-ranges i ((r ∷ rs) ++ (x ∷ [])) (after-ranges n)))
-    (ap (λ ws. (open-word element.SequenceAcknowledgement ∷ identifier-words n []) ++ ws) (words-push r rs x))
-    (fair-more n h i r (rs ++ (x ∷ [])) (omega (arith, f .0, length-append rs (x ∷ []))) (ascending-push 1 (r ∷ rs) x a (f .1))))
+      let f = follows-parts (r ∷ rs) x g in
+      subst (λ ps. Fair ps (more-ranges i ((r ∷ rs) ++ (x ∷ [])) (after-ranges n)))
+      (ap (λ ws. (open-word element.SequenceAcknowledgement ∷ identifier-words n []) ++ ws) (words-push r rs x))
+      (fair-more n h i r (rs ++ (x ∷ [])) (omega (arith, f .0, length-append rs (x ∷ []))) (ascending-push 1 (r ∷ rs) x a (f .1))))
     (fair-behind n (r ∷ rs) h l a)
 
 fair-ranges : (n : ℕ) → Is-identifier n
-    → Fair (open-word element.SequenceAcknowledgement ∷ identifier-words n []) (ranges-part (after-ranges n))
+  → Fair (open-word element.SequenceAcknowledgement ∷ identifier-words n []) (ranges-part (after-ranges n))
 fair-ranges n h =
     fair-tag (tag.Empty element.Nothing) _ _ _ (fair-behind n [] h (lit≤ tt) refl)
     (fit (fair-reads (range-behind []) _ stop _
-    (λ x g. fair-more n h 4 x [] (lit≤ tt) (ascending-push 1 [] x refl (follows-parts [] x g .1)))
-    (record { lower = 1; upper = 1 }) refl none))
+      (λ x g. fair-more n h 4 x [] (lit≤ tt) (ascending-push 1 [] x refl (follows-parts [] x g .1)))
+      (record { lower = 1; upper = 1 }) refl none))
 
 -- a letter
 fair-sequence : Fair (open-word element.Sequence ∷ []) sequence-tree
 unfolding Proper
 fair-sequence =
     fair-identifier _ (open-word element.Sequence ∷ []) (λ n h.
-    fair-within number element.MessageNumber _ _ 1 first-number (λ m i.
-    fair-only (tag.Close element.Sequence) _ _
-    (fair-within letter element.Letter _ _ (0 ∷ []) (lit≤ tt, lit≤ tt, (lit< tt, tt)) (λ bs j.
-    fair-ends _ (sequence n m bs) (h, i, j) refl))))
+      fair-within number element.MessageNumber _ _ 1 first-number (λ m i.
+        fair-only (tag.Close element.Sequence) _ _
+        (fair-within letter element.Letter _ _ (0 ∷ []) (lit≤ tt, lit≤ tt, (lit< tt, tt)) (λ bs j.
+          fair-ends _ (sequence n m bs) (h, i, j) refl))))
 
 -- a fault
 fair-about : (c : FaultCode) (make : ℕ → Fault-meaning) → ((n : ℕ) → Is-identifier n → Is-fault (make n))
-    → ((n : ℕ) (ps : Words) → fault-words (make n) ps ≡ code-words c (naming-words element.Detail n ps))
-    → Fair (code-words c []) (within element.Detail identifier-part (λ n. only (tag.Close element.SequenceFault) (ends (sequence-fault (make n)))))
+  → ((n : ℕ) (ps : Words) → fault-words (make n) ps ≡ code-words c (naming-words element.Detail n ps))
+  → Fair (code-words c []) (within element.Detail identifier-part (λ n. only (tag.Close element.SequenceFault) (ends (sequence-fault (make n)))))
 unfolding Proper
 fair-about c make p w =
     fair-only (tag.Open element.Detail) _ _ (fair-identifier _ _ (λ n h.
-    fair-only (tag.Close element.Detail) _ _ (fair-only (tag.Close element.SequenceFault) _ _
-    (fair-ends _ (sequence-fault (make n)) (p n h) (w n (close-word element.SequenceFault ∷ []))))))
+      fair-only (tag.Close element.Detail) _ _ (fair-only (tag.Close element.SequenceFault) _ _
+        (fair-ends _ (sequence-fault (make n)) (p n h) (w n (close-word element.SequenceFault ∷ []))))))
 
 fair-detail : (c : FaultCode)
-    → Fair (code-words c []) (detail-part c (λ f. only (tag.Close element.SequenceFault) (ends (sequence-fault f))))
+  → Fair (code-words c []) (detail-part c (λ f. only (tag.Close element.SequenceFault) (ends (sequence-fault f))))
 unfolding Proper
 fair-detail code.UnknownSequence = fair-about code.UnknownSequence unknown-sequence (λ n h. h) (λ n ps. refl)
 fair-detail code.SequenceTerminated = fair-about code.SequenceTerminated sequence-terminated (λ n h. h) (λ n ps. refl)
@@ -195,14 +195,14 @@ unfolding Proper
 fair =
     fair-tag (tag.Empty element.CreateSequence) _ _ [] (fair-ends _ create-sequence tt refl)
     (fit (fair-tag (tag.Open element.CreateSequenceResponse) _ _ []
-    (fair-naming element.CreateSequenceResponse create-sequence-response (λ n h. h) (λ n. refl))
-    (fit (fair-tag (tag.Open element.Sequence) _ _ [] fair-sequence
-    (fit (fair-tag (tag.Open element.AckRequested) _ _ []
-    (fair-naming element.AckRequested ack-requested (λ n h. h) (λ n. refl))
-    (fit (fair-tag (tag.Open element.SequenceAcknowledgement) _ _ []
-    (fair-identifier _ (open-word element.SequenceAcknowledgement ∷ []) fair-ranges)
-    (fit (fair-tag (tag.Open element.CloseSequence) _ _ []
-    (fair-ending element.CloseSequence close-sequence (λ n last h i. (h, i)) (λ n last. refl))
-    (fit (fair-tag (tag.Open element.TerminateSequence) _ _ []
-    (fair-ending element.TerminateSequence terminate-sequence (λ n last h i. (h, i)) (λ n last. refl))
-    (fit (fair-tag (tag.Open element.SequenceFault) _ stop [] fair-fault none))))))))))))))
+        (fair-naming element.CreateSequenceResponse create-sequence-response (λ n h. h) (λ n. refl))
+      (fit (fair-tag (tag.Open element.Sequence) _ _ [] fair-sequence
+        (fit (fair-tag (tag.Open element.AckRequested) _ _ []
+            (fair-naming element.AckRequested ack-requested (λ n h. h) (λ n. refl))
+          (fit (fair-tag (tag.Open element.SequenceAcknowledgement) _ _ []
+              (fair-identifier _ (open-word element.SequenceAcknowledgement ∷ []) fair-ranges)
+            (fit (fair-tag (tag.Open element.CloseSequence) _ _ []
+                (fair-ending element.CloseSequence close-sequence (λ n last h i. (h, i)) (λ n last. refl))
+              (fit (fair-tag (tag.Open element.TerminateSequence) _ _ []
+                  (fair-ending element.TerminateSequence terminate-sequence (λ n last h i. (h, i)) (λ n last. refl))
+                (fit (fair-tag (tag.Open element.SequenceFault) _ stop [] fair-fault none))))))))))))))

@@ -71,41 +71,34 @@ module _ (wording : Meaning → List (List ℕ)) where
   module _ (top : Tree) (all : List ℕ) where
     -- g is what is left of the stage g0 that the pieces ps led to
     pub stops : (g g0 : Tree) (ps : List (List ℕ)) (bs : List ℕ) (place : ℕ) → Cut all ps bs → run (Some top) ps ≡ Some g0 → Begun ps → Fits ps g
-        → (0 < length bs → next g0 (piece bs) ≡ next g (piece bs)) → walk (length all) g bs ≡ Err place → Stopped top all place
+      → (0 < length bs → next g0 (piece bs) ≡ next g (piece bs)) → walk (length all) g bs ≡ Err place → Stopped top all place
     stops stop g0 ps bs place c r b f n e =
         record {
-          before = ps;
-          rest = bs;
-          cut = c;
-          there = err-same _ _ (sym e ∙ walk-stop (length all) bs);
-          begins = b;
-          stage = g0;
-          led = r;
-          wrong = n;
+          before = ps; rest = bs; cut = c; there = err-same _ _ (sym e ∙ walk-stop (length all) bs); begins = b; stage = g0; led = r; wrong = n
         }
     stops (whole f g) g0 ps [] place c r b h n e = absurd (ok-not-err f place (sym (walk-here (length all) f g) ∙ e))
     stops (whole f g) g0 ps (x ∷ xs) place c r b h n e =
         stops g g0 ps (x ∷ xs) place c r b (h .2) n (sym (walk-beyond (length all) (x ∷ xs) f g (omega arith)) ∙ e)
     stops (reads κ k h) g0 ps bs place c r b f n e =
-        elim (cases-option (reader κ (piece bs))) [
-          | inl s ↦
-              stops h g0 ps bs place c r b (f .1) (λ l. n l ∙ ap (λ o. pick o k (next h (piece bs))) s)
-              (sym (walk-none (length all) bs κ k h s) ∙ e)
-          | inr m ↦
-              let a = m .0 in
-              let s = m .1 in
-              let q = reader-is κ a (piece bs) s in
-              let l = nonempty bs κ a s in
-              let i = f .0 a (q .1) in
-              stops (k a) (k a) (ps ++ (spell κ a ∷ [])) (after bs) place
-              (subst (λ x. Cut all (ps ++ (x ∷ [])) (after bs)) (q .0) (cut-snoc all ps bs c l))
-              (run-snoc (Some top) ps g0 (spell κ a) r ∙ (ap (next g0) (sym (q .0)) ∙ (n l ∙ ap (λ o. pick o k (next h (piece bs))) s)))
-              (begun (k a) (ps ++ (spell κ a ∷ [])) (i .0) (i .1)) (i .1) (λ _. refl) (sym (walk-read (length all) bs κ a k h s) ∙ e)
+        elim (cases-option (reader κ (piece bs)))
+        [ inl s ↦
+          stops h g0 ps bs place c r b (f .1) (λ l. n l ∙ ap (λ o. pick o k (next h (piece bs))) s)
+          (sym (walk-none (length all) bs κ k h s) ∙ e)
+        | inr m ↦
+          let a = m .0 in
+          let s = m .1 in
+          let q = reader-is κ a (piece bs) s in
+          let l = nonempty bs κ a s in
+          let i = f .0 a (q .1) in
+          stops (k a) (k a) (ps ++ (spell κ a ∷ [])) (after bs) place
+          (subst (λ x. Cut all (ps ++ (x ∷ [])) (after bs)) (q .0) (cut-snoc all ps bs c l))
+          (run-snoc (Some top) ps g0 (spell κ a) r ∙ (ap (next g0) (sym (q .0)) ∙ (n l ∙ ap (λ o. pick o k (next h (piece bs))) s)))
+          (begun (k a) (ps ++ (spell κ a ∷ [])) (i .0) (i .1)) (i .1) (λ _. refl) (sym (walk-read (length all) bs κ a k h s) ∙ e)
         ]
 
   -- a walk that comes to a form has gone along its pieces
   pub spells : (end : ℕ) (all : List ℕ) (g : Tree) (ps : List (List ℕ)) (bs : List ℕ) (f : Meaning) → Cut all ps bs → Fits ps g → walk end g bs ≡ Ok f
-      → Proper f × Cut all (wording f) []
+    → Proper f × Cut all (wording f) []
   spells end all stop ps bs f c h e = absurd (ok-not-err f _ (sym e ∙ walk-stop end bs))
   spells end all (whole f' g) ps [] f c h e =
       let z : f' ≡ f = ok-same f' f (sym (walk-here end f' g) ∙ e) in
@@ -113,12 +106,12 @@ module _ (wording : Meaning → List (List ℕ)) where
   spells end all (whole f' g) ps (x ∷ xs) f c h e =
       spells end all g ps (x ∷ xs) f c (h .2) (sym (walk-beyond end (x ∷ xs) f' g (omega arith)) ∙ e)
   spells end all (reads κ k h) ps bs f c i e =
-      elim (cases-option (reader κ (piece bs))) [
-        | inl s ↦ spells end all h ps bs f c (i .1) (sym (walk-none end bs κ k h s) ∙ e)
-        | inr m ↦
-            let a = m .0 in
-            let q = reader-is κ a (piece bs) (m .1) in
-            spells end all (k a) (ps ++ (spell κ a ∷ [])) (after bs) f
-            (subst (λ x. Cut all (ps ++ (x ∷ [])) (after bs)) (q .0) (cut-snoc all ps bs c (nonempty bs κ a (m .1))))
-            (i .0 a (q .1) .1) (sym (walk-read end bs κ a k h (m .1)) ∙ e)
+      elim (cases-option (reader κ (piece bs)))
+      [ inl s ↦ spells end all h ps bs f c (i .1) (sym (walk-none end bs κ k h s) ∙ e)
+      | inr m ↦
+        let a = m .0 in
+        let q = reader-is κ a (piece bs) (m .1) in
+        spells end all (k a) (ps ++ (spell κ a ∷ [])) (after bs) f
+        (subst (λ x. Cut all (ps ++ (x ∷ [])) (after bs)) (q .0) (cut-snoc all ps bs c (nonempty bs κ a (m .1))))
+        (i .0 a (q .1) .1) (sym (walk-read end bs κ a k h (m .1)) ∙ e)
       ]

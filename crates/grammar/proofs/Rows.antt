@@ -51,7 +51,7 @@ by-length : (p : List ℕ) (ps : List (List ℕ)) → 0 < length p → piece-len
 by-length p ps l n = record {
   some = omega (arith, length-append p (concat ps));
   first = ap (λ i. take i (p ++ concat ps)) n ∙ take-at p (concat ps) (length p) refl;
-  then = ap (λ i. drop i (p ++ concat ps)) n ∙ drop-at p (concat ps) (length p) refl;
+  then = ap (λ i. drop i (p ++ concat ps)) n ∙ drop-at p (concat ps) (length p) refl
 }
 
 whole-bracketed : (p : List ℕ) {ps : List (List ℕ)} → Bracketed p → Whole p ps
@@ -73,11 +73,11 @@ range-bracketed x hu hl =
     record {
       inner = begins ++ (decimal (x .upper) ++ (range-between ++ low));
       clear =
-          without-append 62 begins (decimal (x .upper) ++ (range-between ++ low)) refl
-          (without-append 62 (decimal (x .upper)) (range-between ++ low) (decimal-without 62 (x .upper) no-end hu)
+        without-append 62 begins (decimal (x .upper) ++ (range-between ++ low)) refl
+        (without-append 62 (decimal (x .upper)) (range-between ++ low) (decimal-without 62 (x .upper) no-end hu)
           (without-append 62 range-between low refl
-          (without-append 62 (decimal (x .lower)) ends (decimal-without 62 (x .lower) no-end hl) refl)));
-      spelt = simp append-assoc;
+            (without-append 62 (decimal (x .lower)) ends (decimal-without 62 (x .lower) no-end hl) refl)));
+      spelt = simp append-assoc
     }
 
 pub whole-range : (x : Range) {ps : List (List ℕ)} → x .upper < 2 ^ 64 → x .lower < 2 ^ 64 → Whole (range-text x) ps

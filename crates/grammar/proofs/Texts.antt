@@ -56,9 +56,9 @@ ending-is : (e : Element) (n : ℕ) (last : Option ℕ) → enclosed e (identifi
 ending-is e n last =
     sym (append-nil (enclosed e (identifier-text n ++ last-text last))) ∙
     (enclosed-text e (identifier-text n ++ last-text last) [] ∙
-    ap (λ x. open-word e ++ x)
-    (append-assoc (identifier-text n) (last-text last) (concat (close-word e ∷ [])) ∙
-    (ap (λ x. identifier-text n ++ x) (last-is last (close-word e ∷ [])) ∙ identifier-is n (last-words last (close-word e ∷ [])))))
+      ap (λ x. open-word e ++ x)
+      (append-assoc (identifier-text n) (last-text last) (concat (close-word e ∷ [])) ∙
+        (ap (λ x. identifier-text n ++ x) (last-is last (close-word e ∷ [])) ∙ identifier-is n (last-words last (close-word e ∷ [])))))
 
 range-texts-are : (rs : List Range) → range-texts rs ≡ concat (map range-text rs)
 unfolding range-texts
@@ -85,21 +85,21 @@ receipt-is n rs final c ps =
     enclosed-text element.SequenceAcknowledgement inner ps ∙
     ap (λ x. open-word element.SequenceAcknowledgement ++ x)
     (apart ∙
-    (ap (λ x. identifier-text n ++ (ranges-text rs ++ (final-text final ++ x))) (enclosed-text element.Credit (decimal c) qs) ∙
-    (ap (λ x. identifier-text n ++ (ranges-text rs ++ x)) (final-is final (credit-words c ps)) ∙
-    (ap (λ x. identifier-text n ++ x) (ranges-are rs (final-words final (credit-words c ps))) ∙
-    identifier-is n (ranges-words rs ++ final-words final (credit-words c ps))))))
+      (ap (λ x. identifier-text n ++ (ranges-text rs ++ (final-text final ++ x))) (enclosed-text element.Credit (decimal c) qs) ∙
+        (ap (λ x. identifier-text n ++ (ranges-text rs ++ x)) (final-is final (credit-words c ps)) ∙
+          (ap (λ x. identifier-text n ++ x) (ranges-are rs (final-words final (credit-words c ps))) ∙
+            identifier-is n (ranges-words rs ++ final-words final (credit-words c ps))))))
 
 detail-is : (n : ℕ) (ps : Words) → detail-text n ++ concat ps ≡ concat (naming-words element.Detail n ps)
 unfolding detail-text
 detail-is n ps = naming-is element.Detail n ps
 
 about-is : (c : FaultCode) (n : ℕ) (ps : Words)
-    → (enclosed element.FaultCode (fault-name c) ++ detail-text n) ++ concat ps ≡ concat (within-words element.FaultCode (fault-name c) (naming-words element.Detail n ps))
+  → (enclosed element.FaultCode (fault-name c) ++ detail-text n) ++ concat ps ≡ concat (within-words element.FaultCode (fault-name c) (naming-words element.Detail n ps))
 about-is c n ps =
     append-assoc (enclosed element.FaultCode (fault-name c)) (detail-text n) (concat ps) ∙
     (ap (λ x. enclosed element.FaultCode (fault-name c) ++ x) (detail-is n ps) ∙
-    enclosed-text element.FaultCode (fault-name c) (naming-words element.Detail n ps))
+      enclosed-text element.FaultCode (fault-name c) (naming-words element.Detail n ps))
 
 fault-is : (f : Fault-meaning) (ps : Words) → open-word element.SequenceFault ++ (fault-text f ++ concat ps) ≡ concat (fault-words f ps)
 unfolding fault-text
@@ -110,21 +110,21 @@ fault-is create-sequence-refused ps =
     ap (λ x. open-word element.SequenceFault ++ x) (enclosed-text element.FaultCode (fault-name code.CreateSequenceRefused) ps)
 
 sequence-is : (n m : ℕ) (bs : List ℕ)
-    → enclosed element.Sequence (identifier-text n ++ enclosed element.MessageNumber (decimal m)) ++ enclosed element.Letter (hex-text bs) ≡
+  → enclosed element.Sequence (identifier-text n ++ enclosed element.MessageNumber (decimal m)) ++ enclosed element.Letter (hex-text bs) ≡
     concat (wording (sequence n m bs))
 sequence-is n m bs =
     let letters = within-words element.Letter (hex-text bs) [] in
     let number = enclosed element.MessageNumber (decimal m) in
     ap (λ x. enclosed element.Sequence (identifier-text n ++ number) ++ x)
-    (sym (append-nil (enclosed element.Letter (hex-text bs))) ∙ enclosed-text element.Letter (hex-text bs) []) ∙
+      (sym (append-nil (enclosed element.Letter (hex-text bs))) ∙ enclosed-text element.Letter (hex-text bs) []) ∙
     (enclosed-text element.Sequence (identifier-text n ++ number) letters ∙
-    ap (λ x. open-word element.Sequence ++ x)
-    (append-assoc (identifier-text n) number (concat (close-word element.Sequence ∷ letters)) ∙
-    (ap (λ x. identifier-text n ++ x) (enclosed-text element.MessageNumber (decimal m) (close-word element.Sequence ∷ letters)) ∙
-    identifier-is n (within-words element.MessageNumber (decimal m) (close-word element.Sequence ∷ letters)))))
+      ap (λ x. open-word element.Sequence ++ x)
+      (append-assoc (identifier-text n) number (concat (close-word element.Sequence ∷ letters)) ∙
+        (ap (λ x. identifier-text n ++ x) (enclosed-text element.MessageNumber (decimal m) (close-word element.Sequence ∷ letters)) ∙
+          identifier-is n (within-words element.MessageNumber (decimal m) (close-word element.Sequence ∷ letters)))))
 
 response-is : (e : Element) (n : ℕ) (rs : List Range) (c : ℕ)
-    → receipt-text n rs true c ++ enclosed e (identifier-text n) ≡ concat (receipt-words n rs true c (naming-words e n []))
+  → receipt-text n rs true c ++ enclosed e (identifier-text n) ≡ concat (receipt-words n rs true c (naming-words e n []))
 response-is e n rs c =
     ap (λ x. receipt-text n rs true c ++ x) (sym (append-nil (enclosed e (identifier-text n))) ∙ naming-is e n []) ∙
     receipt-is n rs true c (naming-words e n [])
@@ -147,10 +147,9 @@ text-is (sequence-fault f) =
 
 -- rows
 row-identifier : (n : ℕ) (ps : Words) → Is-identifier n → Row ps → Row (identifier-words n ps)
-row-identifier n ps h r = (
-  whole-tag (tag.Open element.Identifier),
-  (whole-identifier (tag.Close element.Identifier) n h, (whole-tag (tag.Close element.Identifier), r)),
-)
+row-identifier n ps h r =
+    (whole-tag (tag.Open element.Identifier),
+      (whole-identifier (tag.Close element.Identifier) n h, (whole-tag (tag.Close element.Identifier), r)))
 
 row-naming : (e : Element) (n : ℕ) (ps : Words) → Is-identifier n → Row ps → Row (naming-words e n ps)
 row-naming e n ps h r = (whole-tag (tag.Open e), row-identifier n (close-word e ∷ ps) h (whole-tag (tag.Close e), r))
@@ -182,23 +181,17 @@ row-final true ps r = (whole-tag (tag.Empty element.Final), r)
 row-final false ps r = r
 
 row-receipt : (n : ℕ) (rs : List Range) (final : Bool) (c : ℕ) (ps : Words) → Is-receipt n rs c → Row ps → Row (receipt-words n rs final c ps)
-row-receipt n rs final c ps h r = (
-  whole-tag (tag.Open element.SequenceAcknowledgement),
-  row-identifier n (ranges-words rs ++ final-words final (credit-words c ps)) (h .0)
+row-receipt n rs final c ps h r =
+    (whole-tag (tag.Open element.SequenceAcknowledgement), row-identifier n (ranges-words rs ++ final-words final (credit-words c ps)) (h .0)
       (row-ranges rs (final-words final (credit-words c ps)) (h .2)
-      (row-final final (credit-words c ps)
-      (row-number element.Credit c (close-word element.SequenceAcknowledgement ∷ ps) (h .3)
-      (whole-tag (tag.Close element.SequenceAcknowledgement), r)))),
-)
+        (row-final final (credit-words c ps)
+          (row-number element.Credit c (close-word element.SequenceAcknowledgement ∷ ps) (h .3)
+            (whole-tag (tag.Close element.SequenceAcknowledgement), r)))))
 
 row-code : (c : FaultCode) (ps : Words) → Row ps → Row (code-words c ps)
-row-code c ps r = (
-  whole-tag (tag.Open element.SequenceFault),
-  (
-    whole-tag (tag.Open element.FaultCode),
-    (whole-fault (tag.Close element.FaultCode) c, (whole-tag (tag.Close element.FaultCode), r)),
-  ),
-)
+row-code c ps r =
+    (whole-tag (tag.Open element.SequenceFault), (whole-tag (tag.Open element.FaultCode),
+      (whole-fault (tag.Close element.FaultCode) c, (whole-tag (tag.Close element.FaultCode), r))))
 
 row-fault : (f : Fault-meaning) (ps : Words) → Is-fault f → Row ps → Row (fault-words f ps)
 row-fault (unknown-sequence n) ps h r = row-code code.UnknownSequence _ (row-naming element.Detail n ps h r)
@@ -210,16 +203,10 @@ row : (m : Meaning) → Proper m → Row (wording m)
 unfolding Proper
 row create-sequence h = (whole-tag (tag.Empty element.CreateSequence), tt)
 row (create-sequence-response n) h = row-naming element.CreateSequenceResponse n [] h tt
-row (sequence n m bs) h = (
-  whole-tag (tag.Open element.Sequence),
-  row-identifier n _ (h .0) (row-number element.MessageNumber m _ (h .1) (
-    whole-tag (tag.Close element.Sequence),
-    (
-      whole-tag (tag.Open element.Letter),
-      (whole-letter (tag.Close element.Letter) bs (h .2), (whole-tag (tag.Close element.Letter), tt)),
-    ),
-  )),
-)
+row (sequence n m bs) h =
+    (whole-tag (tag.Open element.Sequence), row-identifier n _ (h .0) (row-number element.MessageNumber m _ (h .1)
+      (whole-tag (tag.Close element.Sequence), (whole-tag (tag.Open element.Letter),
+        (whole-letter (tag.Close element.Letter) bs (h .2), (whole-tag (tag.Close element.Letter), tt))))))
 row (ack-requested n) h = row-naming element.AckRequested n [] h tt
 row (sequence-acknowledgement n rs final c) h = row-receipt n rs final c [] h tt
 row (close-sequence n last) h = row-ending element.CloseSequence n last (h .0) (h .1)

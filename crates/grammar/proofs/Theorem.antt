@@ -45,16 +45,16 @@ refused bs place e =
       rest = s .rest;
       cut = s .cut;
       there =
-          omega (arith, s .there, ap length (cut-whole bs (s .before) (s .rest) (s .cut)), length-append (concat (s .before)) (s .rest));
+        omega (arith, s .there, ap length (cut-whole bs (s .before) (s .rest) (s .cut)), length-append (concat (s .before)) (s .rest));
       begins = begins (s .before) (s .begins);
       wrong = λ l b.
-          let c = cut-split (text (b .of)) (s .before) (piece (s .rest) ∷ []) (b .more) (b .cut) in
-          let none = ap (next (s .stage)) (c .2 .1) ∙ s .wrong l in
-          ok-not-err (b .of) (0 - length (c .0))
-          (sym (complete 0 (b .of) (b .proper)) ∙
+        let c = cut-split (text (b .of)) (s .before) (piece (s .rest) ∷ []) (b .more) (b .cut) in
+        let none = ap (next (s .stage)) (c .2 .1) ∙ s .wrong l in
+        ok-not-err (b .of) (0 - length (c .0))
+        (sym (complete 0 (b .of) (b .proper)) ∙
           (walk-along 0 grammar (s .before) (text (b .of)) (c .0) (s .stage) (s .led) (c .1) ∙
-          (walk-next 0 (s .stage) (c .0) (c .2 .0) ∙ ap (onward 0 (c .0)) none)));
-      none = λ m h t. ok-not-err m place (sym (complete (length bs) m h) ∙ (ap (walk (length bs) grammar) t ∙ e));
+            (walk-next 0 (s .stage) (c .0) (c .2 .0) ∙ ap (onward 0 (c .0)) none)));
+      none = λ m h t. ok-not-err m place (sym (complete (length bs) m h) ∙ (ap (walk (length bs) grammar) t ∙ e))
     }
 
 ok-same : (a b : Meaning) → _≡_ {A = Result Meaning ℕ} (Ok a) (Ok b) → a ≡ b

@@ -93,21 +93,21 @@ pub walk-next : (end : ℕ) (g : Tree) (bs : List ℕ) → 0 < length bs → wal
 walk-next end stop bs l = walk-stop end bs
 walk-next end (whole f g) bs l = walk-beyond end bs f g l ∙ walk-next end g bs l
 walk-next end (reads κ k h) bs l =
-    elim (cases-option (reader κ (piece bs))) [
-      | inl e ↦ walk-none end bs κ k h e ∙ (walk-next end h bs l ∙ ap (λ o. onward end bs (pick o k (next h (piece bs)))) (sym e))
-      | inr m ↦ walk-read end bs κ (m .0) k h (m .1) ∙ ap (λ o. onward end bs (pick o k (next h (piece bs)))) (sym (m .1))
+    elim (cases-option (reader κ (piece bs)))
+    [ inl e ↦ walk-none end bs κ k h e ∙ (walk-next end h bs l ∙ ap (λ o. onward end bs (pick o k (next h (piece bs)))) (sym e))
+    | inr m ↦ walk-read end bs κ (m .0) k h (m .1) ∙ ap (λ o. onward end bs (pick o k (next h (piece bs)))) (sym (m .1))
     ]
 
 -- the walk goes on from where the pieces lead
 pub walk-run : (end : ℕ) (g : Tree) (ps : List (List ℕ)) (bs rest : List ℕ) (o : Option Tree) (g' : Tree) → next g (piece bs) ≡ o
-    → run o ps ≡ Some g' → 0 < length bs → Cut (after bs) ps rest → walk end g bs ≡ walk end g' rest
+  → run o ps ≡ Some g' → 0 < length bs → Cut (after bs) ps rest → walk end g bs ≡ walk end g' rest
 walk-run end g [] bs rest o g' n r l c = walk-next end g bs l ∙ (ap (onward end bs) (n ∙ r) ∙ ap (walk end g') c)
 walk-run end g (p ∷ ps) bs rest None g' n r l c = absurd (none-some g' r)
 walk-run end g (p ∷ ps) bs rest (Some f) g' n r l c =
     walk-next end g bs l ∙ (ap (onward end bs) n ∙ walk-run end f ps (after bs) rest (next f p) g' (ap (next f) (c .1)) r (c .0) (c .2))
 
 pub walk-along : (end : ℕ) (g : Tree) (ps : List (List ℕ)) (bs rest : List ℕ) (g' : Tree) → run (Some g) ps ≡ Some g' → Cut bs ps rest
-    → walk end g bs ≡ walk end g' rest
+  → walk end g bs ≡ walk end g' rest
 walk-along end g [] bs rest g' r c = ap (λ x. walk end x bs) (let e : g ≡ g' = cc in e) ∙ ap (walk end g') c
 walk-along end g (p ∷ ps) bs rest g' r c = walk-run end g ps bs rest (next g p) g' (ap (next g) (c .1)) r (c .0) (c .2)
 

@@ -39,12 +39,12 @@ use Rattle.grammar.proofs.Words.{Words, open-word, close-word, within-words, i
 
 -- one piece, first in its tree
 run-read : (κ : Kind) (a : Value κ) (k : Value κ → Tree) (h : Tree) (ps : Words) → Good κ a
-    → run (Some (reads κ k h)) (spell κ a ∷ ps) ≡ run (Some (k a)) ps
+  → run (Some (reads κ k h)) (spell κ a ∷ ps) ≡ run (Some (k a)) ps
 run-read κ a k h ps g = ap (λ o. run (pick o k (next h (spell κ a))) ps) (is-reader κ a g)
 
 -- a piece of another kind
 run-else : (κ : Kind) (k : Value κ → Tree) (h : Tree) (p : List ℕ) (ps : Words) → reader κ p ≡ None
-    → run (Some (reads κ k h)) (p ∷ ps) ≡ run (Some h) (p ∷ ps)
+  → run (Some (reads κ k h)) (p ∷ ps) ≡ run (Some h) (p ∷ ps)
 run-else κ k h p ps e = ap (λ o. run (pick o k (next h p)) ps) e
 
 run-tag : (t : Tag) (g h : Tree) (ps : Words) → run (Some (tagged t g h)) (tag-text t ∷ ps) ≡ run (Some g) ps
@@ -69,47 +69,47 @@ no-final = refl
 
 -- one piece in its element
 run-within : (κ : Kind) (e : Element) (a : Value κ) (k : Value κ → Tree) (ps : Words) → Good κ a
-    → run (Some (within e (one κ) k)) (within-words e (spell κ a) ps) ≡ run (Some (k a)) ps
+  → run (Some (within e (one κ) k)) (within-words e (spell κ a) ps) ≡ run (Some (k a)) ps
 run-within κ e a k ps g =
     run-tag (tag.Open e) (one κ (λ b. only (tag.Close e) (k b))) stop (spell κ a ∷ (close-word e ∷ ps)) ∙
     (run-read κ a (λ b. only (tag.Close e) (k b)) stop (close-word e ∷ ps) g ∙ run-tag (tag.Close e) (k a) stop ps)
 
 run-identifier : (k : ℕ → Tree) (n : ℕ) (ps : Words) → Is-identifier n
-    → run (Some (identifier-part k)) (identifier-words n ps) ≡ run (Some (k n)) ps
+  → run (Some (identifier-part k)) (identifier-words n ps) ≡ run (Some (k n)) ps
 run-identifier k n ps h = run-within identifier element.Identifier n k ps h
 
 run-naming : (e : Element) (make : ℕ → Meaning) (n : ℕ) → Is-identifier n
-    → run (Some (naming-tree e make)) (identifier-words n (close-word e ∷ [])) ≡ Some (ends (make n))
+  → run (Some (naming-tree e make)) (identifier-words n (close-word e ∷ [])) ≡ Some (ends (make n))
 run-naming e make n h =
     run-identifier (λ n. only (tag.Close e) (ends (make n))) n (close-word e ∷ []) h ∙ run-tag (tag.Close e) (ends (make n)) stop []
 
 run-ending : (e : Element) (make : ℕ → Option ℕ → Meaning) (n : ℕ) (last : Option ℕ) → Is-identifier n → Is-last last
-    → reader (kind.tag (tag.Open element.LastMsgNumber)) (close-word e) ≡ None
-    → run (Some (ending-tree e make)) (identifier-words n (last-words last (close-word e ∷ []))) ≡ Some (ends (make n last))
+  → reader (kind.tag (tag.Open element.LastMsgNumber)) (close-word e) ≡ None
+  → run (Some (ending-tree e make)) (identifier-words n (last-words last (close-word e ∷ []))) ≡ Some (ends (make n last))
 run-ending e make n None h i o =
     run-identifier (λ n. last-part (λ last. only (tag.Close e) (ends (make n last)))) n (close-word e ∷ []) h ∙
     (run-else (kind.tag (tag.Open element.LastMsgNumber)) _ (only (tag.Close e) (ends (make n None))) (close-word e) [] o ∙
-    run-tag (tag.Close e) (ends (make n None)) stop [])
+      run-tag (tag.Close e) (ends (make n None)) stop [])
 run-ending e make n (Some m) h i o =
     run-identifier (λ n. last-part (λ last. only (tag.Close e) (ends (make n last)))) n
-    (within-words element.LastMsgNumber (decimal m) (close-word e ∷ [])) h ∙
+      (within-words element.LastMsgNumber (decimal m) (close-word e ∷ [])) h ∙
     (run-tag (tag.Open element.LastMsgNumber) (one number (λ m. only (tag.Close element.LastMsgNumber) (only (tag.Close e) (ends (make n (Some m))))))
-    (only (tag.Close e) (ends (make n None))) (decimal m ∷ (close-word element.LastMsgNumber ∷ (close-word e ∷ []))) ∙
-    (run-read number m (λ m. only (tag.Close element.LastMsgNumber) (only (tag.Close e) (ends (make n (Some m))))) stop
-    (close-word element.LastMsgNumber ∷ (close-word e ∷ [])) i ∙
-    (run-tag (tag.Close element.LastMsgNumber) (only (tag.Close e) (ends (make n (Some m)))) stop (close-word e ∷ []) ∙
-    run-tag (tag.Close e) (ends (make n (Some m))) stop [])))
+        (only (tag.Close e) (ends (make n None))) (decimal m ∷ (close-word element.LastMsgNumber ∷ (close-word e ∷ []))) ∙
+      (run-read number m (λ m. only (tag.Close element.LastMsgNumber) (only (tag.Close e) (ends (make n (Some m))))) stop
+          (close-word element.LastMsgNumber ∷ (close-word e ∷ [])) i ∙
+        (run-tag (tag.Close element.LastMsgNumber) (only (tag.Close e) (ends (make n (Some m)))) stop (close-word e ∷ []) ∙
+          run-tag (tag.Close e) (ends (make n (Some m))) stop [])))
 
 run-credit : (k : ℕ → Tree) (c : ℕ) (ps : Words) → Is-number c → run (Some (credit-part k)) (credit-words c ps) ≡ run (Some (k c)) ps
 run-credit k c ps h =
     run-within number element.Credit c (λ c. only (tag.Close element.SequenceAcknowledgement) (k c))
-    (close-word element.SequenceAcknowledgement ∷ ps) h ∙
+      (close-word element.SequenceAcknowledgement ∷ ps) h ∙
     run-tag (tag.Close element.SequenceAcknowledgement) (k c) stop ps
 
 -- ranges, and then a piece that is none
 run-more : (k : List Range → Tree) (i : ℕ) (rs xs : List Range) (p : List ℕ) (ps : Words) → ((rs : List Range) → reader (range-behind rs) p ≡ None)
-    → length xs ≤ i → length rs + length xs ≤ 5 → ascending (next-low 1 rs) xs ≡ true
-    → run (Some (more-ranges i rs k)) (map range-text xs ++ (p ∷ ps)) ≡ run (Some (k (rs ++ xs))) (p ∷ ps)
+  → length xs ≤ i → length rs + length xs ≤ 5 → ascending (next-low 1 rs) xs ≡ true
+  → run (Some (more-ranges i rs k)) (map range-text xs ++ (p ∷ ps)) ≡ run (Some (k (rs ++ xs))) (p ∷ ps)
 run-more k zero rs [] p ps n l m a = ap (λ x. run (Some (k x)) (p ∷ ps)) (sym (append-nil rs))
 run-more k (suc i) rs [] p ps n l m a =
     run-else (range-behind rs) (λ x. more-ranges i (rs ++ (x ∷ [])) k) (k rs) p ps (n rs) ∙
@@ -120,40 +120,40 @@ run-more k (suc i) rs (x ∷ xs) p ps n l m a =
     let g : follows rs x ≡ true = and-from (ltb (length rs) 5) (starts-at (next-low 1 rs) x) (lt-ltb _ _ (omega arith)) (d .0) in
     run-read (range-behind rs) x (λ x. more-ranges i (rs ++ (x ∷ [])) k) (k rs) (map range-text xs ++ (p ∷ ps)) g ∙
     (run-more k i (rs ++ (x ∷ [])) xs p ps n (omega arith) (omega (arith, length-append rs (x ∷ [])))
-    (ap (λ low. ascending low xs) (next-push 1 rs x) ∙ d .1) ∙
-    ap (λ y. run (Some (k y)) (p ∷ ps)) (append-assoc rs (x ∷ []) xs))
+        (ap (λ low. ascending low xs) (next-push 1 rs x) ∙ d .1) ∙
+      ap (λ y. run (Some (k y)) (p ∷ ps)) (append-assoc rs (x ∷ []) xs))
 
 run-ranges : (k : List Range → Tree) (rs : List Range) (p : List ℕ) (ps : Words) → ((rs : List Range) → reader (range-behind rs) p ≡ None)
-    → length rs ≤ 5 → ascending 1 rs ≡ true → run (Some (ranges-part k)) (ranges-words rs ++ (p ∷ ps)) ≡ run (Some (k rs)) (p ∷ ps)
+  → length rs ≤ 5 → ascending 1 rs ≡ true → run (Some (ranges-part k)) (ranges-words rs ++ (p ∷ ps)) ≡ run (Some (k rs)) (p ∷ ps)
 run-ranges k [] p ps n l a = run-tag (tag.Empty element.Nothing) (k []) (one (range-behind []) (λ x. more-ranges 4 (x ∷ []) k)) (p ∷ ps)
 run-ranges k (x ∷ xs) p ps n l a =
     let d = and-parts (starts-at 1 x) (ascending (x .upper + 2) xs) a in
     run-else (kind.tag (tag.Empty element.Nothing)) _ (one (range-behind []) (λ x. more-ranges 4 (x ∷ []) k)) (range-text x) (map range-text xs ++ (p ∷ ps))
-    (no-ranges x) ∙
+      (no-ranges x) ∙
     (run-read (range-behind []) x (λ x. more-ranges 4 (x ∷ []) k) stop (map range-text xs ++ (p ∷ ps)) (d .0) ∙
-    run-more k 4 (x ∷ []) xs p ps n (omega arith) (omega arith) (d .1))
+      run-more k 4 (x ∷ []) xs p ps n (omega arith) (omega arith) (d .1))
 
 -- a receipt
 run-behind : (n : ℕ) (rs : List Range) (final : Bool) (c : ℕ) (ps : Words) → Is-receipt n rs c
-    → run (Some (ranges-part (after-ranges n))) (ranges-words rs ++ final-words final (credit-words c ps)) ≡
+  → run (Some (ranges-part (after-ranges n))) (ranges-words rs ++ final-words final (credit-words c ps)) ≡
     run (Some (after-receipt n rs final c)) ps
 run-behind n rs true c ps h =
     run-ranges (after-ranges n) rs (tag-text (tag.Empty element.Final)) (credit-words c ps) no-range-final (h .1) (h .2) ∙
     (run-tag (tag.Empty element.Final) (credit-part (after-receipt n rs true)) (credit-part (after-receipt n rs false)) (credit-words c ps) ∙
-    run-credit (after-receipt n rs true) c ps (h .3))
+      run-credit (after-receipt n rs true) c ps (h .3))
 run-behind n rs false c ps h =
     run-ranges (after-ranges n) rs (open-word element.Credit) (decimal c ∷ (close-word element.Credit ∷ (close-word element.SequenceAcknowledgement ∷ ps)))
-    no-range-credit (h .1) (h .2) ∙
+      no-range-credit (h .1) (h .2) ∙
     (run-else (kind.tag (tag.Empty element.Final)) (λ _. credit-part (after-receipt n rs true)) (credit-part (after-receipt n rs false)) (open-word element.Credit)
-    (decimal c ∷ (close-word element.Credit ∷ (close-word element.SequenceAcknowledgement ∷ ps))) no-final ∙
-    run-credit (after-receipt n rs false) c ps (h .3))
+        (decimal c ∷ (close-word element.Credit ∷ (close-word element.SequenceAcknowledgement ∷ ps))) no-final ∙
+      run-credit (after-receipt n rs false) c ps (h .3))
 
 run-receipt : (n : ℕ) (rs : List Range) (final : Bool) (c : ℕ) (ps : Words) → Is-receipt n rs c
-    → run (Some grammar) (receipt-words n rs final c ps) ≡ run (Some (after-receipt n rs final c)) ps
+  → run (Some grammar) (receipt-words n rs final c ps) ≡ run (Some (after-receipt n rs final c)) ps
 unfolding reader tag-text
 run-receipt n rs final c ps h =
     run-identifier (λ n. ranges-part (after-ranges n)) n
-    (ranges-words rs ++ final-words final (credit-words c ps)) (h .0) ∙
+      (ranges-words rs ++ final-words final (credit-words c ps)) (h .0) ∙
     run-behind n rs final c ps h
 
 -- a response behind a final receipt
@@ -164,18 +164,18 @@ run-response e n m =
 
 -- a fault
 run-about : (make : ℕ → Fault-meaning) (n : ℕ) → Is-identifier n
-    → run (Some (within element.Detail identifier-part (λ n. only (tag.Close element.SequenceFault) (ends (sequence-fault (make n))))))
-    (naming-words element.Detail n (close-word element.SequenceFault ∷ [])) ≡ Some (ends (sequence-fault (make n)))
+  → run (Some (within element.Detail identifier-part (λ n. only (tag.Close element.SequenceFault) (ends (sequence-fault (make n))))))
+      (naming-words element.Detail n (close-word element.SequenceFault ∷ [])) ≡ Some (ends (sequence-fault (make n)))
 run-about make n h =
     let k = λ (n : ℕ). only (tag.Close element.SequenceFault) (ends (sequence-fault (make n))) in
     run-tag (tag.Open element.Detail) (identifier-part (λ n. only (tag.Close element.Detail) (k n))) stop
-    (identifier-words n (close-word element.Detail ∷ (close-word element.SequenceFault ∷ []))) ∙
+      (identifier-words n (close-word element.Detail ∷ (close-word element.SequenceFault ∷ []))) ∙
     (run-identifier (λ n. only (tag.Close element.Detail) (k n)) n (close-word element.Detail ∷ (close-word element.SequenceFault ∷ [])) h ∙
-    (run-tag (tag.Close element.Detail) (k n) stop (close-word element.SequenceFault ∷ []) ∙
-    run-tag (tag.Close element.SequenceFault) (ends (sequence-fault (make n))) stop []))
+      (run-tag (tag.Close element.Detail) (k n) stop (close-word element.SequenceFault ∷ []) ∙
+        run-tag (tag.Close element.SequenceFault) (ends (sequence-fault (make n))) stop []))
 
 run-code : (c : FaultCode) (ps : Words)
-    → run (Some grammar) (code-words c ps) ≡ run (Some (detail-part c (λ f. only (tag.Close element.SequenceFault) (ends (sequence-fault f))))) ps
+  → run (Some grammar) (code-words c ps) ≡ run (Some (detail-part c (λ f. only (tag.Close element.SequenceFault) (ends (sequence-fault f))))) ps
 unfolding reader tag-text
 run-code c ps =
     run-within fault-code element.FaultCode c (λ c. detail-part c (λ f. only (tag.Close element.SequenceFault) (ends (sequence-fault f)))) ps tt
@@ -211,8 +211,8 @@ leads (sequence n m bs) h =
     let letters = within-words element.Letter (hex-text bs) [] in
     run-identifier _ n (within-words element.MessageNumber (decimal m) (close-word element.Sequence ∷ letters)) (h .0) ∙
     (run-within number element.MessageNumber m _ (close-word element.Sequence ∷ letters) (h .1) ∙
-    (run-tag (tag.Close element.Sequence) (within element.Letter (one letter) held) stop letters ∙
-    run-within letter element.Letter bs held [] (h .2)))
+      (run-tag (tag.Close element.Sequence) (within element.Letter (one letter) held) stop letters ∙
+        run-within letter element.Letter bs held [] (h .2)))
 leads (ack-requested n) h = run-naming element.AckRequested ack-requested n h
 leads (sequence-acknowledgement n rs true c) h = run-receipt n rs true c [] h
 leads (sequence-acknowledgement n rs false c) h = run-receipt n rs false c [] h

@@ -77,7 +77,7 @@ wording create-sequence = tag-text (tag.Empty element.CreateSequence) ∷ []
 wording (create-sequence-response n) = naming-words element.CreateSequenceResponse n []
 wording (sequence n m bs) =
     open-word element.Sequence ∷ identifier-words n (within-words element.MessageNumber (decimal m)
-    (close-word element.Sequence ∷ within-words element.Letter (hex-text bs) []))
+      (close-word element.Sequence ∷ within-words element.Letter (hex-text bs) []))
 wording (ack-requested n) = naming-words element.AckRequested n []
 wording (sequence-acknowledgement n rs final c) = receipt-words n rs final c []
 wording (close-sequence n last) = ending-words element.CloseSequence n last

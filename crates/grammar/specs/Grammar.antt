@@ -68,7 +68,7 @@ after-final n rs c =
     tagged (tag.Open element.CloseSequenceResponse)
     (response element.CloseSequenceResponse n (close-sequence-response n rs c))
     (tagged (tag.Open element.TerminateSequenceResponse)
-    (response element.TerminateSequenceResponse n (terminate-sequence-response n rs c)) stop)
+      (response element.TerminateSequenceResponse n (terminate-sequence-response n rs c)) stop)
 
 abbrev pub after-receipt : ℕ → List Range → Bool → ℕ → Tree
 after-receipt n rs true c = whole (sequence-acknowledgement n rs true c) (after-final n rs c)
@@ -87,7 +87,7 @@ receipt-tree = identifier-part (λ n. ranges-part (after-ranges n))
 abbrev pub sequence-tree : Tree
 sequence-tree =
     identifier-part (λ n. number-part element.MessageNumber (λ m. only (tag.Close element.Sequence)
-    (within element.Letter (one letter) (λ bs. ends (sequence n m bs)))))
+      (within element.Letter (one letter) (λ bs. ends (sequence n m bs)))))
 
 -- an identifier alone in its element
 abbrev pub naming-tree : Element → (ℕ → Meaning) → Tree
@@ -117,14 +117,6 @@ abbrev pub grammar : Tree
 grammar =
     tagged (tag.Empty element.CreateSequence) (ends create-sequence)
     (tagged (tag.Open element.CreateSequenceResponse) (naming-tree element.CreateSequenceResponse create-sequence-response)
-<<<<<<< HEAD
-    (tagged (tag.Open element.Sequence) sequence-tree
-    (tagged (tag.Open element.AckRequested) (naming-tree element.AckRequested ack-requested)
-    (tagged (tag.Open element.SequenceAcknowledgement) receipt-tree
-    (tagged (tag.Open element.CloseSequence) (ending-tree element.CloseSequence close-sequence)
-    (tagged (tag.Open element.TerminateSequence) (ending-tree element.TerminateSequence terminate-sequence)
-    (tagged (tag.Open element.SequenceFault) fault-tree stop)))))))
-=======
       (tagged (tag.Open element.Sequence) sequence-tree
         (tagged (tag.Open element.AckRequested) (naming-tree element.AckRequested ack-requested)
           (tagged (tag.Open element.SequenceAcknowledgement) receipt-tree
@@ -135,4 +127,3 @@ grammar =
 -- what these bytes read as: what the frame says, or the place of the refusal
 abbrev pub reading : List ℕ → Result Meaning ℕ
 reading bs = walk (length bs) grammar bs
->>>>>>> main

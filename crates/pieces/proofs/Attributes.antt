@@ -41,7 +41,7 @@ field-is p u e =
     let r = plain-is (u .0) (take (before 34 p) p) (s .0) in
     record {
       held = (r .low, r .high);
-      spelt = sym (take-append-drop (before 34 p) p) ∙ (ap (λ x. x ++ drop (before 34 p) p) (r .spelt) ∙ ap (λ x. decimal (u .0) ++ x) (s .1));
+      spelt = sym (take-append-drop (before 34 p) p) ∙ (ap (λ x. x ++ drop (before 34 p) p) (r .spelt) ∙ ap (λ x. decimal (u .0) ++ x) (s .1))
     }
 
 is-field : (n : ℕ) (q : List ℕ) → Held n → field-of (decimal n ++ (34 ∷ q)) ≡ Some (n, 34 ∷ q)
@@ -51,8 +51,8 @@ is-field n q h =
     let l : before 34 p ≡ length (decimal n) = before-beyond 34 (decimal n) (34 ∷ q) (decimal-without 34 n (λ e. let z : _≡_ {A = ℕ} 0 1 = cc in omega arith) (h .1)) ∙ omega arith in
     ap (λ i. mapped (λ k. (k, drop i p)) (plain (take i p))) l ∙
     (ap (λ x. mapped (λ k. (k, drop (length (decimal n)) p)) (plain x)) (take-at (decimal n) (34 ∷ q) (length (decimal n)) refl) ∙
-    (ap (λ x. mapped (λ k. (k, x)) (plain (decimal n))) (drop-at (decimal n) (34 ∷ q) (length (decimal n)) refl) ∙
-    ap (mapped (λ k. (k, 34 ∷ q))) (is-plain n (h .0) (h .1))))
+      (ap (λ x. mapped (λ k. (k, x)) (plain (decimal n))) (drop-at (decimal n) (34 ∷ q) (length (decimal n)) refl) ∙
+        ap (mapped (λ k. (k, 34 ∷ q))) (is-plain n (h .0) (h .1))))
 
 end-is : (y : Range) (end : List ℕ) (x : Range) → range-end y end ≡ Some x → (end ≡ []) × (y ≡ x)
 end-is y end x e =
@@ -82,11 +82,11 @@ range-is p x e =
       lower = (omega (arith, l .held, el), omega (arith, l .held, el));
       upper = (omega (arith, u .held, eu), omega (arith, u .held, eu));
       spelt =
-          strip-is range-opens p (a .0) (a .1) ∙
-          (ap (λ y. range-opens ++ y)
+        strip-is range-opens p (a .0) (a .1) ∙
+        (ap (λ y. range-opens ++ y)
           (u .spelt ∙ ap (λ y. decimal (b .0 .0) ++ y)
-          (strip-is range-between (b .0 .1) (c .0) (c .1) ∙ ap (λ y. range-between ++ y) (l .spelt ∙ ap (λ y. decimal (d .0 .0) ++ y) z))) ∙
-          ap range-text (g .1));
+            (strip-is range-between (b .0 .1) (c .0) (c .1) ∙ ap (λ y. range-between ++ y) (l .spelt ∙ ap (λ y. decimal (d .0 .0) ++ y) z))) ∙
+          ap range-text (g .1))
     }
 
 pub is-range : (x : Range) → Held (x .lower) → Held (x .upper) → range-read (range-text x) ≡ Some x
@@ -95,5 +95,5 @@ is-range x hl hu =
     let l = decimal (x .lower) ++ range-closes in
     then-some _ _ _ (is-strip range-opens (decimal (x .upper) ++ (range-between ++ l))) ∙
     (then-some _ _ _ (is-field (x .upper) _ hu) ∙
-    (then-some _ _ _ (is-strip range-between l) ∙
-    (then-some _ _ _ (is-field (x .lower) _ hl) ∙ then-some _ _ _ (is-strip range-closes []))))
+      (then-some _ _ _ (is-strip range-between l) ∙
+        (then-some _ _ _ (is-field (x .lower) _ hl) ∙ then-some _ _ _ (is-strip range-closes []))))

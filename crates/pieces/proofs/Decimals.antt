@@ -20,7 +20,7 @@ module _ (n : ℕ) (ds : List ℕ) (i : ℕ) (l : i < length ds) where
   read-much e = at-drop-more (read-on n) ds i 0 l ∙ cond-false _ _ _ (and-right _ _ (le-ltb _ _ e))
 
   pub read-more : 48 ≤ getD ds i 0 → getD ds i 0 ≤ 57 → n * 10 + (getD ds i 0 - 48) < 2 ^ 64
-      → read-on n (drop i ds) ≡ read-on (n * 10 + (getD ds i 0 - 48)) (drop (i + 1) ds)
+    → read-on n (drop i ds) ≡ read-on (n * 10 + (getD ds i 0 - 48)) (drop (i + 1) ds)
   read-more e f g =
       at-drop-more (read-on n) ds i 0 l ∙
       cond-true _ _ _ (and-from _ _ (and-from _ _ (le-leb _ _ e) (le-leb _ _ f)) (lt-ltb _ _ g))

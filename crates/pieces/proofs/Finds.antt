@@ -16,7 +16,7 @@ pub found-here : (b : ℕ) (bs : List ℕ) (i : ℕ) → i < length bs → getD 
 found-here b bs i l e = at-drop-more (before b) bs i 0 l ∙ cond-true _ _ _ (eq-eqb _ _ e)
 
 pub found-later : (b : ℕ) (bs : List ℕ) (i : ℕ) → i < length bs → (getD bs i 0 ≡ b → ⊥)
-    → before b (drop i bs) ≡ suc (before b (drop (i + 1) bs))
+  → before b (drop i bs) ≡ suc (before b (drop (i + 1) bs))
 found-later b bs i l e = at-drop-more (before b) bs i 0 l ∙ cond-false _ _ _ (ne-eqb _ _ e)
 
 -- behind bytes among which it is not

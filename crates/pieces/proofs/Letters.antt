@@ -26,34 +26,32 @@ pub record Hex (c : ℕ) : Type 0 where
 
 pub hex-is : (c : ℕ) → is-hex c ≡ true → Hex c
 hex-is c h =
-    elim (or-cases _ _ h) [
-      | inl e ↦
-          let p = and-parts _ _ e in
-          let l = leb-true 48 c (p .0) in
-          let u = leb-true c 57 (p .1) in
-          let v : hex-value c ≡ c - 48 = cond-true _ _ _ (p .1) in
-          record { small = omega arith; back = ap hex-char v ∙ (cond-true _ _ _ (lt-ltb (c - 48) 10 (omega arith)) ∙ omega arith) }
-      | inr e ↦
-          let p = and-parts _ _ e in
-          let l = leb-true 65 c (p .0) in
-          let u = leb-true c 70 (p .1) in
-          let v : hex-value c ≡ c - 55 = cond-false _ _ _ (lt-leb c 57 (omega arith)) ∙ omega arith in
-          record { small = omega arith; back = ap hex-char v ∙ (cond-false _ _ _ (le-ltb (c - 55) 10 (omega arith)) ∙ omega arith) }
+    elim (or-cases _ _ h)
+    [ inl e ↦
+      let p = and-parts _ _ e in
+      let l = leb-true 48 c (p .0) in
+      let u = leb-true c 57 (p .1) in
+      let v : hex-value c ≡ c - 48 = cond-true _ _ _ (p .1) in
+      record { small = omega arith; back = ap hex-char v ∙ (cond-true _ _ _ (lt-ltb (c - 48) 10 (omega arith)) ∙ omega arith) }
+    | inr e ↦
+      let p = and-parts _ _ e in
+      let l = leb-true 65 c (p .0) in
+      let u = leb-true c 70 (p .1) in
+      let v : hex-value c ≡ c - 55 = cond-false _ _ _ (lt-leb c 57 (omega arith)) ∙ omega arith in
+      record { small = omega arith; back = ap hex-char v ∙ (cond-false _ _ _ (le-ltb (c - 55) 10 (omega arith)) ∙ omega arith) }
     ]
 
 pub hex-digit : (d : ℕ) → d < 16 → (is-hex (hex-char d) ≡ true) × (hex-value (hex-char d) ≡ d)
 hex-digit d h =
-    elim (cases-lt d 10) [
-      | inl l ↦
-          let e : hex-char d ≡ 48 + d = cond-true _ _ _ (lt-ltb d 10 l) in (
-            ap is-hex e ∙ or-left _ _ (and-from _ _ (le-leb 48 (48 + d) (omega arith)) (le-leb (48 + d) 57 (omega arith))),
-            ap hex-value e ∙ (cond-true _ _ _ (le-leb (48 + d) 57 (omega arith)) ∙ omega arith),
-          )
-      | inr l ↦
-          let e : hex-char d ≡ 55 + d = cond-false _ _ _ (le-ltb d 10 l) in (
-            ap is-hex e ∙ or-right _ _ (and-from _ _ (le-leb 65 (55 + d) (omega arith)) (le-leb (55 + d) 70 (omega arith))),
-            ap hex-value e ∙ (cond-false _ _ _ (lt-leb (55 + d) 57 (omega arith)) ∙ omega arith),
-          )
+    elim (cases-lt d 10)
+    [ inl l ↦
+      let e : hex-char d ≡ 48 + d = cond-true _ _ _ (lt-ltb d 10 l) in
+      (ap is-hex e ∙ or-left _ _ (and-from _ _ (le-leb 48 (48 + d) (omega arith)) (le-leb (48 + d) 57 (omega arith))),
+        ap hex-value e ∙ (cond-true _ _ _ (le-leb (48 + d) 57 (omega arith)) ∙ omega arith))
+    | inr l ↦
+      let e : hex-char d ≡ 55 + d = cond-false _ _ _ (le-ltb d 10 l) in
+      (ap is-hex e ∙ or-right _ _ (and-from _ _ (le-leb 65 (55 + d) (omega arith)) (le-leb (55 + d) 70 (omega arith))),
+        ap hex-value e ∙ (cond-false _ _ _ (lt-leb (55 + d) 57 (omega arith)) ∙ omega arith))
     ]
 
 pub record Pairs-are (acc p bs : List ℕ) : Type 0 where
@@ -67,23 +65,23 @@ unfolding read-pairs hex-text
 pairs-are acc [] bs e = let z : acc ≡ bs = cc in record { more = []; joined = sym z ∙ sym (append-nil acc); spelt = refl; bytes = tt }
 pairs-are acc (a ∷ []) bs e = absurd (none-some bs e)
 pairs-are acc (a ∷ (b ∷ cs)) bs e =
-    elim (cases-bool (is-hex a && is-hex b)) [
-      | inl s ↦
-          let q = and-parts _ _ s in
-          let ha = hex-is a (q .0) in
-          let hb = hex-is b (q .1) in
-          let v = hex-value a * 16 + hex-value b in
-          let r = pairs-are (acc ++ (v ∷ [])) cs bs (sym (cond-true _ _ None s) ∙ e) in
-          record {
-            more = v ∷ r .more;
-            joined = r .joined ∙ append-assoc acc (v ∷ []) (r .more);
-            spelt =
-                ap (λ x. x ∷ (b ∷ cs)) (sym (ap hex-char (div-mul-add (hex-value a) 16 (hex-value b) (hb .small)) ∙ ha .back)) ∙
-                (ap (λ x. hex-char (v / 16) ∷ (x ∷ cs)) (sym (ap hex-char (mod-mul-add (hex-value a) 16 (hex-value b) (hb .small)) ∙ hb .back)) ∙
-                ap (λ x. hex-char (v / 16) ∷ (hex-char (v % 16) ∷ x)) (r .spelt));
-            bytes = (omega (arith, ha .small, hb .small), r .bytes);
-          }
-      | inr s ↦ absurd (none-some bs (sym (cond-false _ (read-pairs (acc ++ ((hex-value a * 16 + hex-value b) ∷ [])) cs) _ s) ∙ e))
+    elim (cases-bool (is-hex a && is-hex b))
+    [ inl s ↦
+      let q = and-parts _ _ s in
+      let ha = hex-is a (q .0) in
+      let hb = hex-is b (q .1) in
+      let v = hex-value a * 16 + hex-value b in
+      let r = pairs-are (acc ++ (v ∷ [])) cs bs (sym (cond-true _ _ None s) ∙ e) in
+      record {
+        more = v ∷ r .more;
+        joined = r .joined ∙ append-assoc acc (v ∷ []) (r .more);
+        spelt =
+          ap (λ x. x ∷ (b ∷ cs)) (sym (ap hex-char (div-mul-add (hex-value a) 16 (hex-value b) (hb .small)) ∙ ha .back)) ∙
+          (ap (λ x. hex-char (v / 16) ∷ (x ∷ cs)) (sym (ap hex-char (mod-mul-add (hex-value a) 16 (hex-value b) (hb .small)) ∙ hb .back)) ∙
+            ap (λ x. hex-char (v / 16) ∷ (hex-char (v % 16) ∷ x)) (r .spelt));
+        bytes = (omega (arith, ha .small, hb .small), r .bytes)
+      }
+    | inr s ↦ absurd (none-some bs (sym (cond-false _ (read-pairs (acc ++ ((hex-value a * 16 + hex-value b) ∷ [])) cs) _ s) ∙ e))
     ]
 
 pub are-pairs : (acc bs : List ℕ) → All-bytes bs → read-pairs acc (hex-text bs) ≡ Some (acc ++ bs)
@@ -117,7 +115,7 @@ pub is-letter : (bs : List ℕ) → Is-letter bs → letter-read (hex-text bs) �
 is-letter bs h =
     cond-true _ _ _ (le-leb (length (hex-text bs)) 96 (omega (arith, length-hex bs))) ∙
     (then-some letter-of (read-pairs [] (hex-text bs)) bs (are-pairs [] bs (h .2)) ∙
-    cond-true _ _ _ (and-from _ _ (le-leb 1 (length bs) (h .0)) (le-leb (length bs) 48 (h .1))))
+      cond-true _ _ _ (and-from _ _ (le-leb 1 (length bs) (h .0)) (le-leb (length bs) 48 (h .1))))
 
 -- no digit is another byte
 hex-without : (b d : ℕ) → (is-hex b ≡ true → ⊥) → d < 16 → not (eqb (hex-char d) b) ≡ true

@@ -41,7 +41,7 @@ read-is a n (c ∷ cs) e =
     record {
       digits = and-from (digit c) (all-digits cs) (q .0) (r .digits);
       value = r .value;
-      small = λ h. r .small (ltb-true _ _ (q .1));
+      small = λ h. r .small (ltb-true _ _ (q .1))
     }
 
 fold-ge : (a : ℕ) (cs : List ℕ) → a ≤ fold a cs
@@ -70,10 +70,10 @@ plain-is n (c ∷ cs) e =
     let s = r .small (omega arith) in
     record {
       spelt =
-          sym (decimal-value own (c ∷ cs) (r .digits) (omega arith) (λ z. absurd (omega arith)) (omega arith)) ∙
-          ap decimal (sym v);
+        sym (decimal-value own (c ∷ cs) (r .digits) (omega arith) (λ z. absurd (omega arith)) (omega arith)) ∙
+        ap decimal (sym v);
       low = omega (arith, fold-ge (0 * 10 + (c - 48)) cs);
-      high = s;
+      high = s
     }
 
 pub is-plain : (n : ℕ) → 1 ≤ n → n < 2 ^ 64 → plain (decimal n) ≡ Some n

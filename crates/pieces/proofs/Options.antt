@@ -26,6 +26,6 @@ pub then-none : {A B : Type 0} (f : A → Option B) (o : Option A) → o ≡ Non
 then-none f o e = ap (λ x. then x f) e
 
 pub then-is : {A B : Type 0} (f : A → Option B) (o : Option A) (b : B) → then o f ≡ Some b
-    → (a : A) × (o ≡ Some a) × (f a ≡ Some b)
+  → (a : A) × (o ≡ Some a) × (f a ≡ Some b)
 then-is f None b e = absurd (none-some b e)
 then-is f (Some a) b e = (a, refl, e)

@@ -12,23 +12,23 @@ use Rattle.pieces.specs.Hex.{is-hex, hex-value, read-pairs}
 
 -- two digits at a time
 two : (acc p : List ℕ) (j : ℕ) → j + 1 < length p
-    → read-pairs acc (drop j p) ≡ read-pairs acc (getD p j 0 ∷ (getD p (j + 1) 0 ∷ drop (j + 2) p))
+  → read-pairs acc (drop j p) ≡ read-pairs acc (getD p j 0 ∷ (getD p (j + 1) 0 ∷ drop (j + 2) p))
 two acc p j l =
     at-drop-more (read-pairs acc) p j 0 (omega arith) ∙
     (at-drop-more (λ t. read-pairs acc (getD p j 0 ∷ t)) p (j + 1) 0 l ∙
-    ap (λ i. read-pairs acc (getD p j 0 ∷ (getD p (j + 1) 0 ∷ drop i p))) (omega arith))
+      ap (λ i. read-pairs acc (getD p j 0 ∷ (getD p (j + 1) 0 ∷ drop i p))) (omega arith))
 
 pub pairs-bad : (acc p : List ℕ) (j : ℕ) → j + 1 < length p → (is-hex (getD p j 0) && is-hex (getD p (j + 1) 0)) ≡ false → read-pairs acc (drop j p) ≡ None
 unfolding read-pairs
 pairs-bad acc p j l e = two acc p j l ∙ cond-false _ _ _ e
 
 pub pairs-more : (acc p : List ℕ) (j i : ℕ) → j + 1 < length p → i ≡ j + 2 → is-hex (getD p j 0) ≡ true → is-hex (getD p (j + 1) 0) ≡ true
-    → read-pairs acc (drop j p) ≡ read-pairs (acc ++ ((hex-value (getD p j 0) * 16 + hex-value (getD p (j + 1) 0)) ∷ [])) (drop i p)
+  → read-pairs acc (drop j p) ≡ read-pairs (acc ++ ((hex-value (getD p j 0) * 16 + hex-value (getD p (j + 1) 0)) ∷ [])) (drop i p)
 unfolding read-pairs
 pairs-more acc p j i l e a b =
     two acc p j l ∙
     (cond-true _ _ _ (and-from _ _ a b) ∙
-    ap (λ i. read-pairs (acc ++ ((hex-value (getD p j 0) * 16 + hex-value (getD p (j + 1) 0)) ∷ [])) (drop i p)) (sym e))
+      ap (λ i. read-pairs (acc ++ ((hex-value (getD p j 0) * 16 + hex-value (getD p (j + 1) 0)) ∷ [])) (drop i p)) (sym e))
 
 pub pairs-odd : (acc p : List ℕ) (j : ℕ) → length p ≡ j + 1 → read-pairs acc (drop j p) ≡ None
 unfolding read-pairs

@@ -47,10 +47,9 @@ pub identifier-is : (n : ℕ) (p : List ℕ) → identifier-read p ≡ Some n �
 identifier-is n p e =
     let s = then-is (λ ds. then (plain ds) identifier-of) (strip-of urn p) n e in
     let t = then-is identifier-of (plain (s .0)) n (s .2) in
-    let w = within-is 4294967295 (t .0) n (t .2) in (
-      strip-is urn p (s .0) (s .1) ∙ ap (λ x. urn ++ x) (plain-is (t .0) (s .0) (t .1) .spelt ∙ ap decimal (w .0)),
-      (omega arith, omega arith),
-    )
+    let w = within-is 4294967295 (t .0) n (t .2) in
+    (strip-is urn p (s .0) (s .1) ∙ ap (λ x. urn ++ x) (plain-is (t .0) (s .0) (t .1) .spelt ∙ ap decimal (w .0)),
+      (omega arith, omega arith))
 
 pub is-identifier : (n : ℕ) → Is-identifier n → identifier-read (urn ++ decimal n) ≡ Some n
 is-identifier n h =
@@ -59,28 +58,28 @@ is-identifier n h =
 
 -- a name is found exactly under its own text
 same-or : {A : Type 0} (p q : List ℕ) (a b : A) (o : Option A) → cond (sameBytes p q) (Some a) o ≡ Some b
-    → ((p ≡ q) × (a ≡ b)) ⊎ (o ≡ Some b)
+  → ((p ≡ q) × (a ≡ b)) ⊎ (o ≡ Some b)
 same-or p q a b o e =
-    elim (cases-bool (sameBytes p q)) [
-      | inl s ↦ inl (sameBytes-decides p q .0 s, let f = sym (cond-true _ (Some a) o s) ∙ e in cc)
-      | inr s ↦ inr (sym (cond-false _ (Some a) o s) ∙ e)
+    elim (cases-bool (sameBytes p q))
+    [ inl s ↦ inl (sameBytes-decides p q .0 s, let f = sym (cond-true _ (Some a) o s) ∙ e in cc)
+    | inr s ↦ inr (sym (cond-false _ (Some a) o s) ∙ e)
     ]
 
 pub fault-code-is : (c : FaultCode) (p : List ℕ) → fault-code-read p ≡ Some c → p ≡ fault-name c
 fault-code-is c p e =
-    elim (same-or p (fault-name UnknownSequence) UnknownSequence c _ e) [
-      | inl s ↦ s .0 ∙ ap fault-name (s .1)
-      | inr f ↦
-          elim (same-or p (fault-name SequenceTerminated) SequenceTerminated c _ f) [
-            | inl s ↦ s .0 ∙ ap fault-name (s .1)
-            | inr g ↦
-                elim (same-or p (fault-name SequenceClosed) SequenceClosed c _ g) [
-                  | inl s ↦ s .0 ∙ ap fault-name (s .1)
-                  | inr h ↦
-                      elim (same-or p (fault-name CreateSequenceRefused) CreateSequenceRefused c None h)
-                      [ inl s ↦ s .0 ∙ ap fault-name (s .1) | inr i ↦ absurd (none-some c i) ]
-                ]
-          ]
+    elim (same-or p (fault-name UnknownSequence) UnknownSequence c _ e)
+    [ inl s ↦ s .0 ∙ ap fault-name (s .1)
+    | inr f ↦
+      elim (same-or p (fault-name SequenceTerminated) SequenceTerminated c _ f)
+      [ inl s ↦ s .0 ∙ ap fault-name (s .1)
+      | inr g ↦
+        elim (same-or p (fault-name SequenceClosed) SequenceClosed c _ g)
+        [ inl s ↦ s .0 ∙ ap fault-name (s .1)
+        | inr h ↦
+          elim (same-or p (fault-name CreateSequenceRefused) CreateSequenceRefused c None h)
+          [ inl s ↦ s .0 ∙ ap fault-name (s .1) | inr i ↦ absurd (none-some c i) ]
+        ]
+      ]
     ]
 
 pub is-fault-code : (c : FaultCode) → fault-code-read (fault-name c) ≡ Some c

@@ -40,22 +40,22 @@ module _ (beginning p : List ℕ) where
       let z : drop (length beginning) p ≡ q = let f = s .1 in cc in
       sym (take-append-drop (length beginning) p) ∙
       (ap (λ x. x ++ drop (length beginning) p) (sameBytes-decides (take (length beginning) p) beginning .0 (s .0)) ∙
-      ap (λ x. beginning ++ x) z)
+        ap (λ x. beginning ++ x) z)
 
 pub is-strip : (beginning q : List ℕ) → strip-of beginning (beginning ++ q) ≡ Some q
 is-strip beginning q =
     strip-same beginning (beginning ++ q)
-    (sameBytes-decides (take (length beginning) (beginning ++ q)) beginning .1 (take-at beginning q (length beginning) refl)) ∙
+      (sameBytes-decides (take (length beginning) (beginning ++ q)) beginning .1 (take-at beginning q (length beginning) refl)) ∙
     ap Some (drop-at beginning q (length beginning) refl)
 
 -- comparing behind a beginning
 pub same-behind : (beginning p q : List ℕ) → p ≡ beginning ++ q → (r : List ℕ) → sameBytes p (beginning ++ r) ≡ sameBytes q r
 same-behind beginning p q e r =
-    elim (cases-bool (sameBytes q r)) [
-      | inl s ↦ sameBytes-decides p (beginning ++ r) .1 (e ∙ ap (λ x. beginning ++ x) (sameBytes-decides q r .0 s)) ∙ sym s
-      | inr s ↦
-          not-same p (beginning ++ r) (λ z.
-          both-ways (sameBytes q r) s (sameBytes-decides q r .1 (append-cancel-left beginning q r (sym e ∙ z)))) ∙ sym s
+    elim (cases-bool (sameBytes q r))
+    [ inl s ↦ sameBytes-decides p (beginning ++ r) .1 (e ∙ ap (λ x. beginning ++ x) (sameBytes-decides q r .0 s)) ∙ sym s
+    | inr s ↦
+      not-same p (beginning ++ r) (λ z.
+        both-ways (sameBytes q r) s (sameBytes-decides q r .1 (append-cancel-left beginning q r (sym e ∙ z)))) ∙ sym s
     ]
 
 pub none-behind : (beginning p : List ℕ) → strip-of beginning p ≡ None → (r : List ℕ) → sameBytes p (beginning ++ r) ≡ false

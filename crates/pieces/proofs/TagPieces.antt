@@ -30,7 +30,7 @@ bracketed-begins p r b = ((b .inner ++ (62 ∷ [])) ++ r, ap (λ x. x ++ r) (b .
 inner-len : (i r : List ℕ) → without 62 i ≡ true → piece-len (60 ∷ ((i ++ (62 ∷ [])) ++ r)) ≡ suc (length i + 1)
 inner-len i r h =
     let e : before 62 ((i ++ (62 ∷ [])) ++ r) ≡ length i =
-    ap (before 62) (append-assoc i (62 ∷ []) r) ∙ (before-beyond 62 i (62 ∷ r) h ∙ omega arith) in
+      ap (before 62) (append-assoc i (62 ∷ []) r) ∙ (before-beyond 62 i (62 ∷ r) h ∙ omega arith) in
     ap (λ n. min (suc n + 1) (suc (length ((i ++ (62 ∷ [])) ++ r)))) e ∙
     omega (arith, length-append (i ++ (62 ∷ [])) r, length-append i (62 ∷ []))
 
@@ -75,7 +75,7 @@ tag-bracketed (Close e) = record { inner = 47 ∷ element-name e; clear = fittin
 tag-bracketed (Empty e) = record {
   inner = element-name e ++ (47 ∷ []);
   clear = without-append 62 (element-name e) (47 ∷ []) (fitting e .clear) refl;
-  spelt = ap (λ x. 60 ∷ x) (sym (append-assoc (element-name e) (47 ∷ []) (62 ∷ [])));
+  spelt = ap (λ x. 60 ∷ x) (sym (append-assoc (element-name e) (47 ∷ []) (62 ∷ [])))
 }
 
 pub tag-shaped : (t : Tag) → shape (tag-text t) ≡ tag-shape t

@@ -34,7 +34,7 @@ unequal a b f e = eqb-false (rank a) (rank b) f (ap rank e)
 
 -- of another shape than the tag
 other : (x : Token) (t : Tag) → shape-of x ≡ shape (part-of x) → eqb (rank (shape-of x)) (rank (tag-shape t)) ≡ false
-    → false ≡ sameBytes (part-of x) (tag-text t)
+  → false ≡ sameBytes (part-of x) (tag-text t)
 other x t h n =
     sym (not-same (part-of x) (tag-text t) (λ z. unequal (shape-of x) (tag-shape t) n (h ∙ (ap shape z ∙ tag-shaped t))))
 
@@ -62,7 +62,7 @@ closed front =
     let j : length p - 2 ≡ length front + 0 = omega arith in
     and-from _ _ (le-leb 2 (length p) (omega arith))
     (and-from _ _ (eq-eqb _ 62 (ap (λ k. getD p k 0) i ∙ getD-append-add front (47 ∷ (62 ∷ [])) 1 0))
-    (eq-eqb _ 47 (ap (λ k. getD p k 0) j ∙ getD-append-add front (47 ∷ (62 ∷ [])) 0 0)))
+      (eq-eqb _ 47 (ap (λ k. getD p k 0) j ∙ getD-append-add front (47 ∷ (62 ∷ [])) 0 0)))
 
 pub range-shaped : (x : Range) → shape (range-text x) ≡ empty
 unfolding range-text

@@ -36,5 +36,5 @@ range-end x end = cond (eqb (length end) 0) (Some x) None
 unfoldable pub range-read : List ℕ → Option Range
 range-read p =
     then (strip-of range-opens p) (λ a. then (field-of a) (λ u.
-    then (strip-of range-between (u .1)) (λ b. then (field-of b) (λ l.
-    then (strip-of range-closes (l .1)) (range-end (record { lower = l .0; upper = u .0 }))))))
+      then (strip-of range-between (u .1)) (λ b. then (field-of b) (λ l.
+        then (strip-of range-closes (l .1)) (range-end (record { lower = l .0; upper = u .0 }))))))

@@ -27,5 +27,5 @@ abbrev pub fault-code-read : List ℕ → Option FaultCode
 fault-code-read p =
     cond (sameBytes p (fault-name UnknownSequence)) (Some UnknownSequence)
     (cond (sameBytes p (fault-name SequenceTerminated)) (Some SequenceTerminated)
-    (cond (sameBytes p (fault-name SequenceClosed)) (Some SequenceClosed)
-    (cond (sameBytes p (fault-name CreateSequenceRefused)) (Some CreateSequenceRefused) None)))
+      (cond (sameBytes p (fault-name SequenceClosed)) (Some SequenceClosed)
+        (cond (sameBytes p (fault-name CreateSequenceRefused)) (Some CreateSequenceRefused) None)))

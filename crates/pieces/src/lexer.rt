@@ -15,11 +15,7 @@ fn piece_len(bytes: &[u8]) -> usize
     ensures value { λ r. ⌜ r ≡ piece-len (now (bytes .entry)) ⌝ }
     ensures bound { λ r. ⌜ r ≤ length (now (bytes .entry)) ⌝ }
 {
-    if byte_at(bytes, 0) == b'<' {
-        (find(bytes, b'>') + 1).min(bytes.len())
-    } else {
-        find(bytes, b'<')
-    }
+    if byte_at(bytes, 0) == b'<' { (find(bytes, b'>') + 1).min(bytes.len()) } else { find(bytes, b'<') }
 }
 
 // Whether the part ends in `/>`.
@@ -53,8 +49,5 @@ pub fn lex(whole: usize, bytes: &[u8]) -> Result<Lexed<'_>, ReadFault>
         return Err(ReadFault { place: whole });
     }
     let n = piece_len(bytes);
-    Ok(Lexed {
-        token: token_of(&bytes[0..n]),
-        rest: &bytes[n..],
-    })
+    Ok(Lexed { token: token_of(&bytes[0..n]), rest: &bytes[n..] })
 }

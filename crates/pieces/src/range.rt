@@ -20,10 +20,7 @@ fn first_number(bytes: &[u8]) -> Option<Field<'_>>
 {
     let n = find(bytes, b'"');
     let number = decimal(&bytes[0..n])?;
-    Some(Field {
-        number,
-        rest: &bytes[n..],
-    })
+    Some(Field { number, rest: &bytes[n..] })
 }
 
 // The range whose tag this is, whatever its numbers.
@@ -33,13 +30,7 @@ pub fn read_range(part: &[u8]) -> Option<Range>
     let upper = first_number(strip(part, b"<wsrm:AcknowledgementRange Upper=\"")?)?;
     let lower = first_number(strip(upper.rest, b"\" Lower=\"")?)?;
     let end = strip(lower.rest, b"\"/>")?;
-    ended(
-        end,
-        Range {
-            lower: lower.number,
-            upper: upper.number,
-        },
-    )
+    ended(end, Range { lower: lower.number, upper: upper.number })
 }
 
 // The range, if nothing is left.

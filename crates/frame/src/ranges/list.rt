@@ -13,10 +13,7 @@ impl Ranges {
     pub fn new() -> Ranges
         ensures { λ r. ⌜ listed r ≡ [] ⌝ }
     {
-        Ranges {
-            list: [Range { lower: 0, upper: 0 }; MOST],
-            count: 0,
-        }
+        Ranges { list: [Range { lower: 0, upper: 0 }; MOST], count: 0 }
     }
 
     pub fn as_slice(&self) -> &[Range]
@@ -45,21 +42,14 @@ impl Ranges {
     {
         let mut list = self.list;
         list[self.count] = range;
-        Ranges {
-            list,
-            count: self.count + 1,
-        }
+        Ranges { list, count: self.count + 1 }
     }
 
     // The lowest number that the next range may start at.
     fn next_low(&self) -> u64
         ensures value { λ r. ⌜ r ≡ next-low 1 (listed (now (self .entry))) ⌝ }
     {
-        if self.count == 0 {
-            1
-        } else {
-            self.list[self.count - 1].upper + 2
-        }
+        if self.count == 0 { 1 } else { self.list[self.count - 1].upper + 2 }
     }
 }
 

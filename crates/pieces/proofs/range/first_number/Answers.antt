@@ -17,7 +17,7 @@ returns-in-Break-number c =
     let p = now (c .args .bytes) in
     let z : c .find-n .result - 0 ≡ before 34 p = omega (arith, c .find-n .ensures .value) in
     let e : plain (take (before 34 p) p) ≡ None =
-    ap (λ n. plain (take n p)) (sym z) ∙ (sym (c .decimal .ensures) ∙ c .in-Break-number .was tt) in
+      ap (λ n. plain (take n p)) (sym z) ∙ (sym (c .decimal .ensures) ∙ c .in-Break-number .was tt) in
     rw (c .from-residual .ensures) (sym (ap (mapped (λ n. (n, drop (before 34 p) p))) e))
 
 pub returns : need.returns
@@ -27,6 +27,6 @@ returns c =
     let n = c .in-Continue-number .number in
     let z : c .find-n .result - 0 ≡ before 34 p = omega (arith, c .find-n .ensures .value) in
     let e : plain (take (before 34 p) p) ≡ Some n =
-    ap (λ i. plain (take i p)) (sym z) ∙ (sym (c .decimal .ensures) ∙ c .in-Continue-number .was tt) in
+      ap (λ i. plain (take i p)) (sym z) ∙ (sym (c .decimal .ensures) ∙ c .in-Continue-number .was tt) in
     ap (λ x. Some (n, x)) (take-rest p (c .find-n .result) ∙ ap (λ i. drop i p) (c .find-n .ensures .value)) ∙
     sym (ap (mapped (λ k. (k, drop (before 34 p) p))) e)

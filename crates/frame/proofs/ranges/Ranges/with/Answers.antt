@@ -14,13 +14,10 @@ ghost-result c =
     let x = c .args .range in
     let f = follows-parts (listed r) x (c .pre) in
     let n = length-take-le (r .count) (r .list) (omega (arith, r .few, r .whole)) in
-    let room : r .count < length (r .list) = omega (arith, r .whole, f .0) in (
-      omega (arith, f .0),
-      (
-        length-set (r .list) (r .count) x ∙ r .whole,
-        (ap (ascending 1) (take-more-set (r .list) (r .count) x room) ∙ ascending-push 1 (listed r) x (r .ascends) (f .1), tt),
-      ),
-    )
+    let room : r .count < length (r .list) = omega (arith, r .whole, f .0) in
+    (omega (arith, f .0),
+      (length-set (r .list) (r .count) x ∙ r .whole,
+        (ap (ascending 1) (take-more-set (r .list) (r .count) x room) ∙ ascending-push 1 (listed r) x (r .ascends) (f .1), tt)))
 
 pub returns : need.returns
 returns c =

@@ -18,11 +18,11 @@ returns-then-not-is-final c =
     let x = c .args .receipt in
     ap Err (c .fault .ensures) ∙
     sym (ap (λ final. onward (now (c .args .self)) (after-receipt (x .identifier .value) (listed (x .ranges)) final (x .credit .value))) (c .if-not-is-final .taken) ∙
-    receipt-ends _ _ _ _ _ (eqb-false _ 0 (sym (c .is-empty .ensures) ∙ c .if-is-empty .left)))
+      receipt-ends _ _ _ _ _ (eqb-false _ 0 (sym (c .is-empty .ensures) ∙ c .if-is-empty .left)))
 
 pub returns : need.returns
 returns c =
     let x = c .args .receipt in
     c .response .ensures ∙
     sym (ap (λ final. onward (now (c .args .self)) (after-receipt (x .identifier .value) (listed (x .ranges)) final (x .credit .value))) (c .if-not-is-final .left) ∙
-    receipt-more _ _ _ _ _ (eqb-false _ 0 (sym (c .is-empty .ensures) ∙ c .if-is-empty .left)))
+      receipt-more _ _ _ _ _ (eqb-false _ 0 (sym (c .is-empty .ensures) ∙ c .if-is-empty .left)))

@@ -26,9 +26,9 @@ returns-then-get c g =
     let apart : found ≡ i .value → ⊥ = λ e. c .if-get .taken (c .get .ensures ∙ (e ∙ sym (c .get-2 .ensures))) in
     text-off (again (i .value)) _ _ (c .in-Continue-words .words) _ (c .in-Continue-words .ensures tt)
     (again-off (i .value) _ (i .low, i .high) (λ e.
-    let f : _≡_ (Some found) (Some (i .value)) = c .in-Some .ensures tt ∙ e in
-    let z : found ≡ i .value = cc in
-    apart z))
+      let f : _≡_ (Some found) (Some (i .value)) = c .in-Some .ensures tt ∙ e in
+      let z : found ≡ i .value = cc in
+      apart z))
     (c .fault-then-get .ensures) (λ _. g)
 
 pub returns : need.returns

@@ -19,4 +19,4 @@ pub returns : need.returns
 returns c k =
     c .if-takes .ensures tt (k []) _ ∙
     (first-on _ _ _ _ (c .new-ranges .ensures) (c .if-not-takes-range .ensures tt) k ∙
-    (c .loop .inv k ∙ more-off _ _ _ _ (c .loop-test .ensures tt) k))
+      (c .loop .inv k ∙ more-off _ _ _ _ (c .loop-test .ensures tt) k))

@@ -13,7 +13,7 @@ abbrev pub Inv-loop : given.InvT-loop
 Inv-loop l =
     (k : List Range → Tree)
     → onward (l .entry .self) (more-ranges (5 - length (listed (l .entry .ranges))) (listed (l .entry .ranges)) k) ≡
-    onward (l .self) (more-ranges (5 - length (listed (l .ranges))) (listed (l .ranges)) k)
+      onward (l .self) (more-ranges (5 - length (listed (l .ranges))) (listed (l .ranges)) k)
 
 abbrev pub μ-loop : given.MeasureT-loop
 μ-loop l = 5 - length (listed (l .ranges))

@@ -11,9 +11,9 @@ returns-in-Break-credit c =
     let behind = after-receipt n (listed (c .in-Continue-ranges .ranges)) in
     rw (p .1, p .2)
     (sym (c .in-Continue-identifier .ensures tt (λ n. ranges-part (after-ranges n)) ∙
-    (c .in-Continue-ranges .ensures tt (after-ranges n) ∙
-    (c .is-final-is-final .ensures (λ final. credit-part (behind final)) ∙
-    c .in-Break-credit .ensures tt (behind (c .is-final-is-final .result))))))
+      (c .in-Continue-ranges .ensures tt (after-ranges n) ∙
+        (c .is-final-is-final .ensures (λ final. credit-part (behind final)) ∙
+          c .in-Break-credit .ensures tt (behind (c .is-final-is-final .result))))))
 
 pub returns : need.returns
 returns c =
@@ -21,6 +21,6 @@ returns c =
     let behind = after-receipt n (listed (c .in-Continue-ranges .ranges)) in
     c .after-receipt .ensures ∙
     sym (c .in-Continue-identifier .ensures tt (λ n. ranges-part (after-ranges n)) ∙
-    (c .in-Continue-ranges .ensures tt (after-ranges n) ∙
-    (c .is-final-is-final .ensures (λ final. credit-part (behind final)) ∙
-    c .in-Continue-credit .ensures tt (behind (c .is-final-is-final .result)))))
+      (c .in-Continue-ranges .ensures tt (after-ranges n) ∙
+        (c .is-final-is-final .ensures (λ final. credit-part (behind final)) ∙
+          c .in-Continue-credit .ensures tt (behind (c .is-final-is-final .result)))))

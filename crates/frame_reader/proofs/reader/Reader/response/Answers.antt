@@ -24,7 +24,7 @@ returns-in-Break-expect-2 c =
     let p = err-from-errBy (c .from-residual-in-Break-expect-2 .result) (c .from-residual-in-Break-expect-2 .ensures .1) in
     rw (p .1, p .2)
     (sym (c .if-takes .ensures tt _ _ ∙
-    (c .if-takes-2 .ensures tt _ _ ∙ (c .in-Continue-again-2 .ensures tt _ ∙ c .in-Break-expect-2 .ensures tt _))))
+      (c .if-takes-2 .ensures tt _ _ ∙ (c .in-Continue-again-2 .ensures tt _ ∙ c .in-Break-expect-2 .ensures tt _))))
 
 pub returns : need.returns
 returns c =

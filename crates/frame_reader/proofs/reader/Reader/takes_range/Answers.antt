@@ -20,7 +20,7 @@ pub returns-in-rest : need.returns-in-rest
 returns-in-rest c = record {
   way = λ k h. at-end (range-behind (listed (now (c .args .ranges)))) _ _ (c .in-rest .ensures tt .none) _ h;
   stays = λ h. refl;
-  same = refl;
+  same = refl
 }
 
 pub returns-in-rest-token : need.returns-in-rest-token
@@ -55,8 +55,8 @@ returns c =
     let list : listed (c .push .last .self) ≡ rs ++ (x ∷ []) = c .if-not-push .ensures tt .list in
     record {
       way = λ k h.
-          on-read (range-behind rs) x _ bs _ (near-range rs bs x read follow) (c .in-Ok .ensures tt .rest) _ h ∙
-          ap (λ ys. walk (c .args .self .now .whole) (k ys) (now (c .in-Ok .lexed .rest))) (sym list);
+        on-read (range-behind rs) x _ bs _ (near-range rs bs x read follow) (c .in-Ok .ensures tt .rest) _ h ∙
+        ap (λ ys. walk (c .args .self .now .whole) (k ys) (now (c .in-Ok .lexed .rest))) (sym list);
       more = ap length list ∙ length-push rs x;
-      room = follows-parts rs x follow .0;
+      room = follows-parts rs x follow .0
     }
