@@ -1,0 +1,9 @@
+pub mod Places
+pub mod Ranges
+pub mod Destinations
+pub mod Accepted
+pub mod Reads
+pub mod Laws
+pub mod Deliveries
+pub mod Wholes
+pub mod Seen
