@@ -1,5 +1,7 @@
 // Numbers in decimal.
 ghost use mathlib.Core.Path.{_≡_};
+ghost use lib.Dec.{ltb};
+ghost use lib.ListN.{getD};
 ghost use Rattle.pieces.specs.Numbers.{plain};
 use crate::bytes::byte_at;
 
@@ -7,7 +9,7 @@ use crate::bytes::byte_at;
 pub(crate) fn decimal(text: &[u8]) -> Option<u64>
     ensures { λ r. ⌜ r ≡ plain (now (text .entry)) ⌝ }
 {
-    if byte_at(text, 0) <= b'0' {
+    if !starts_number(text) {
         return None;
     }
     let mut n: u64 = 0;
@@ -22,4 +24,11 @@ pub(crate) fn decimal(text: &[u8]) -> Option<u64>
         n = n * 10 + d;
     }
     Some(n)
+}
+
+// Whether the first byte is past `0`, so that no zero leads and there is a byte at all.
+fn starts_number(text: &[u8]) -> bool
+    ensures { λ r. ⌜ r ≡ ltb 48 (getD (now (text .entry)) 0 0) ⌝ }
+{
+    byte_at(text, 0) > b'0'
 }
