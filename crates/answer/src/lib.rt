@@ -1,4 +1,6 @@
 // What the calls of a line answer, and why they say no.
+#![tactic(auto)]
+
 mod answer;
 mod refusal;
 mod turn;

@@ -1,4 +1,6 @@
 // What became of each letter of an input, and the book of paths at its end.
+#![tactic(auto)]
+
 mod outcome;
 mod report;
 mod text;

@@ -26,7 +26,7 @@ pub fn handle(heap: Global, book: &mut Book, line: &[u8]) -> Result<Outcome, All
         (λ o. Handled (book_page book.old) (parsed line.now) o (book_page book.new))
         (λ _. book.new ≡ book.old) }
 {
-    let Some(bytes) = hex::parse(heap, line)? else {
+    let Some(bytes) = hex_text::parse(heap, line)? else {
         return Ok(Outcome::NotHex);
     };
     Ok(hand_over(book, bytes.as_slice()))

@@ -61,7 +61,7 @@ impl Ends {
     }
 
     fn write(&mut self, heap: Global, rest: &[u8]) -> Result<String, AllocError> {
-        let Some(bytes) = hex::parse(heap, rest)? else {
+        let Some(bytes) = hex_text::parse(heap, rest)? else {
             return String::from_str(heap, "no hex");
         };
         numbered(heap, self.planner.write(bytes.as_slice()))

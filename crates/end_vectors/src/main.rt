@@ -1,5 +1,7 @@
 // Runs scripts of calls on a planner's end and an office's end, one call a line, and prints what each answered
 // and what the two ends keep after it; of a line that begins with a point nothing is printed. What it has to print comes from tools/end_vectors.
+#![tactic(auto)]
+
 mod calls;
 mod shows;
 mod words;

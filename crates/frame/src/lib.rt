@@ -1,4 +1,6 @@
 // Frames: what the planner's end and the office's end say to one another, without its text.
+#![tactic(auto)]
+
 mod fault;
 mod form;
 mod frame;

@@ -1,4 +1,6 @@
 // Reading frames.
+#![tactic(auto)]
+
 mod forms;
 mod parts;
 mod reader;

@@ -2,6 +2,8 @@
 // again, and a mark is printed should its text be another.
 //
 // In a line a byte stands for itself, but `\xHH` is the byte of these two digits of 0-9A-F.
+#![tactic(auto)]
+
 mod line;
 
 use frame_reader::read;

@@ -1,4 +1,6 @@
 // Writing frames.
+#![tactic(auto)]
+
 mod buffer;
 mod forms;
 mod parts;

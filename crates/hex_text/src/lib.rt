@@ -1,4 +1,6 @@
 // Bytes written as pairs of hex digits.
+#![tactic(auto)]
+
 mod digits;
 mod words;
 

@@ -1,5 +1,5 @@
 -- Decoding and encoding undo each other: the bytes decode to a change exactly where they are that change's own.
-use Rattle.std.proofs.Common.{◌≡◌, ℕ, ◌+◌, ◌<◌, Bool, true, false, cond, ◌&&◌, eqb, ◌⊎◌, List, [], ◌∷◌, map, length, get_or, Some, None, sym, refl, ap, ◌∙◌, inl, inr, arith}
+use Rattle.std.proofs.Common.{◌≡◌, ℕ, ◌+◌, ◌<◌, Bool, true, false, cond, List, [], ◌∷◌, map, length, get_or, Some, None, sym, refl, ap, ◌∙◌, arith}
 use Rattle.std.specs.List.{range_with_len}
 use Rattle.std.proofs.lemmas.List.FromFn.{fill_by_all}
 use Rattle.std.proofs.lemmas.Bool.{and_parts, eqb-true, cond-true}
@@ -7,21 +7,7 @@ use Rattle.std.proofs.lemmas.Bool.Decides.{nat_tests}
 use Rattle.letter.specs.declared.change.Path.{Path}
 use Rattle.letter.specs.declared.change.Change.{Change}
 use Rattle.letter.specs.declared.change.Change.TheVariants.{Put, Withdrawal}
-use Rattle.letter.specs.Changes.{
-  decoded,
-  encoded,
-  in_range,
-  if_in_range,
-  is_kind,
-  pair_in_range,
-  times_in_range,
-  path_at,
-  put_at,
-  withdrawal_at,
-  two_at,
-  four_at,
-  Decodes,
-}
+use Rattle.letter.specs.Changes.{decoded, encoded, in_range, if_in_range, is_kind, pair_in_range, path_at, put_at, withdrawal_at, two_at, four_at, Decodes}
 use Rattle.letter.proofs.Numbers.{join_two, join_four, Two, Four, split_two, split_four}
 
 -- a change in range is what its own bytes say

@@ -1,4 +1,6 @@
 // Letters: a planner's changes to train paths, as bytes.
+#![tactic(auto)]
+
 mod change;
 mod decoding;
 mod encoding;

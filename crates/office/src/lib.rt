@@ -1,5 +1,7 @@
 // The office's end of a line, the RM Destination: it accepts letters, acknowledges them and hands
 // them over in order. It neither gets nor puts a frame itself.
+#![tactic(auto)]
+
 mod answer;
 mod office;
 mod places;

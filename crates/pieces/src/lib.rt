@@ -1,4 +1,6 @@
 // The pieces that the text of a frame is made of: cutting them off, and what one piece by itself says.
+#![tactic(auto)]
+
 mod bytes;
 mod decimal;
 mod fault;
@@ -10,7 +12,7 @@ mod token;
 mod values;
 
 pub use fault::ReadFault;
-pub use hex_text::read_letter;
+pub use hex::read_letter;
 pub use lexer::lex;
 pub use names::{Element, FaultCode};
 pub use range::read_range;

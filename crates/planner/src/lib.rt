@@ -1,4 +1,6 @@
 // The planner's end of a line: it numbers letters, sends them until they are acknowledged, and closes the sequence.
+#![tactic(auto)]
+
 mod draft;
 mod planner;
 mod refusal;

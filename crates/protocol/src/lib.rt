@@ -1,5 +1,7 @@
 // What is promised of every run of a line. The contracts of the calls of a line cite the same statements;
 // the functions here only name them, so that the checker asks for their proofs.
+#![tactic(auto)]
+
 ghost use Rattle.protocol.specs.Promises.{RunsAreSafe};
 ghost use Rattle.protocol.specs.Turns.{TwoTurnsSettle};
 

@@ -1,4 +1,6 @@
 // Takers: what letters are handed over to, one after another.
+#![tactic(auto)]
+
 mod book;
 mod journal;
 mod refusal;

@@ -1,4 +1,6 @@
 // Transports: what carries frames of 1 to 800 bytes from one end of a line to the other.
+#![tactic(auto)]
+
 mod bag;
 mod mailbox;
 mod refusal;

@@ -1,4 +1,6 @@
 // A layer over any transport, a function over any two, and tests of the mailbox and the bag.
+#![tactic(auto)]
+
 mod forwards;
 mod through;
 

@@ -14,13 +14,13 @@ loop-b-preserved c =
     let i = c.loop-b.b-index in
     let b = get_or bs i 0 in
     puts_by
-    (ap (λ x. (hex_text (take i bs) ++ (x ∷ [])) ++ (c.hex-char-in-loop-b.result ∷ [])) c.hex_char.ensures ∙
-    (ap (λ x. (hex_text (take i bs) ++ (hex_char (b / 16) ∷ [])) ++ (x ∷ [])) c.hex-char-in-loop-b.ensures ∙
+    (ap (λ x. (hex_text (take i bs) ++ (x ∷ [])) ++ (c.hex_char-in-loop-b.result ∷ [])) c.hex_char.ensures ∙
+    (ap (λ x. (hex_text (take i bs) ++ (hex_char (b / 16) ∷ [])) ++ (x ∷ [])) c.hex_char-in-loop-b.ensures ∙
     (hex_more (take i bs) b ∙ ap hex_text (sym (take_more bs i 0 (omega arith))))))
-    (joins (joins c.loop-b.invariant c.put-byte-end.ensures) c.put-byte-end-in-loop-b.ensures)
+    (joins (joins c.loop-b.invariant c.put_byte-end.ensures) c.put_byte-end-in-loop-b.ensures)
 
 pub returns : goal.returns
 returns c = record {
   puts = puts_by (ap hex_text (take_all c.loop-b.b-index c.args.bytes.now (omega arith))) c.loop-b.invariant;
-  fits = all_bytes c.args.bytes.now (λ i. omega (arith, c.type-inv.bytes i));
+  fits = all_bytes c.args.bytes.now (λ i. omega (arith, c.type_inv.bytes i));
 }

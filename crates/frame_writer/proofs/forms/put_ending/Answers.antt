@@ -5,4 +5,4 @@ use Rattle.frame_writer.proofs.forms.put_ending.Goals as goal
 pub returns : goal.returns
 returns c =
     puts_by (ending_parts c.args.e _ _)
-    (joins (joins (joins c.put-tag-at.ensures c.put-identifier-at.ensures) c.put-last-at.ensures) c.put-tag.ensures)
+    (joins (joins (joins c.put_tag-at.ensures c.put_identifier-at.ensures) c.put_last-at.ensures) c.put_tag.ensures)

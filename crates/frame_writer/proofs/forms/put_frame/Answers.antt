@@ -13,40 +13,40 @@ module _ {bs ns : List ℕ} {end : ℕ} where
 
 pub returns-in-CreateSequence : goal.returns-in-CreateSequence
 unfolding text
-returns-in-CreateSequence c = let s = shown _ _ c.in-CreateSequence.is c.put-tag.ensures tt in record { puts = s.0; fits = s.1 }
+returns-in-CreateSequence c = let s = shown _ _ c.in-CreateSequence.is c.put_tag.ensures tt in record { puts = s.0; fits = s.1 }
 
 pub returns-in-CreateSequenceResponse : goal.returns-in-CreateSequenceResponse
 unfolding text
-returns-in-CreateSequenceResponse c = let s = shown _ _ c.in-CreateSequenceResponse.is c.put-naming.ensures tt in record { puts = s.0; fits = s.1 }
+returns-in-CreateSequenceResponse c = let s = shown _ _ c.in-CreateSequenceResponse.is c.put_naming.ensures tt in record { puts = s.0; fits = s.1 }
 
 pub returns-in-Sequence : goal.returns-in-Sequence
 returns-in-Sequence c =
-    let s = shown _ _ c.in-Sequence.is c.put-sequence.ensures.puts c.put-sequence.ensures.fits in record { puts = s.0; fits = s.1 }
+    let s = shown _ _ c.in-Sequence.is c.put_sequence.ensures.puts c.put_sequence.ensures.fits in record { puts = s.0; fits = s.1 }
 
 pub returns-in-AckRequested : goal.returns-in-AckRequested
 unfolding text
-returns-in-AckRequested c = let s = shown _ _ c.in-AckRequested.is c.put-naming-in-AckRequested.ensures tt in record { puts = s.0; fits = s.1 }
+returns-in-AckRequested c = let s = shown _ _ c.in-AckRequested.is c.put_naming-in-AckRequested.ensures tt in record { puts = s.0; fits = s.1 }
 
 pub returns-in-SequenceAcknowledgement : goal.returns-in-SequenceAcknowledgement
 unfolding text
-returns-in-SequenceAcknowledgement c = let s = shown _ _ c.in-SequenceAcknowledgement.is c.put-receipt.ensures tt in record { puts = s.0; fits = s.1 }
+returns-in-SequenceAcknowledgement c = let s = shown _ _ c.in-SequenceAcknowledgement.is c.put_receipt.ensures tt in record { puts = s.0; fits = s.1 }
 
 pub returns-in-CloseSequence : goal.returns-in-CloseSequence
 unfolding text
-returns-in-CloseSequence c = let s = shown _ _ c.in-CloseSequence.is c.put-ending.ensures tt in record { puts = s.0; fits = s.1 }
+returns-in-CloseSequence c = let s = shown _ _ c.in-CloseSequence.is c.put_ending.ensures tt in record { puts = s.0; fits = s.1 }
 
 pub returns-in-CloseSequenceResponse : goal.returns-in-CloseSequenceResponse
 unfolding text
-returns-in-CloseSequenceResponse c = let s = shown _ _ c.in-CloseSequenceResponse.is c.put-response.ensures tt in record { puts = s.0; fits = s.1 }
+returns-in-CloseSequenceResponse c = let s = shown _ _ c.in-CloseSequenceResponse.is c.put_response.ensures tt in record { puts = s.0; fits = s.1 }
 
 pub returns-in-TerminateSequence : goal.returns-in-TerminateSequence
 unfolding text
-returns-in-TerminateSequence c = let s = shown _ _ c.in-TerminateSequence.is c.put-ending-in-TerminateSequence.ensures tt in record { puts = s.0; fits = s.1 }
+returns-in-TerminateSequence c = let s = shown _ _ c.in-TerminateSequence.is c.put_ending-in-TerminateSequence.ensures tt in record { puts = s.0; fits = s.1 }
 
 pub returns-in-TerminateSequenceResponse : goal.returns-in-TerminateSequenceResponse
 unfolding text
-returns-in-TerminateSequenceResponse c = let s = shown _ _ c.in-TerminateSequenceResponse.is c.put-response-in-TerminateSequenceResponse.ensures tt in record { puts = s.0; fits = s.1 }
+returns-in-TerminateSequenceResponse c = let s = shown _ _ c.in-TerminateSequenceResponse.is c.put_response-in-TerminateSequenceResponse.ensures tt in record { puts = s.0; fits = s.1 }
 
 pub returns-in-SequenceFault : goal.returns-in-SequenceFault
 unfolding text
-returns-in-SequenceFault c = let s = shown _ _ c.in-SequenceFault.is c.put-sequence-fault.ensures tt in record { puts = s.0; fits = s.1 }
+returns-in-SequenceFault c = let s = shown _ _ c.in-SequenceFault.is c.put_sequence_fault.ensures tt in record { puts = s.0; fits = s.1 }

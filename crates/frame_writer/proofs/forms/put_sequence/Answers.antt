@@ -11,8 +11,8 @@ returns c =
     let m = c.args.number.value in
     record {
       puts =
-          puts_by (sequence_parts n m c.as-slice.result.now ∙ ap (λ bs. text (sequence n m bs)) c.as-slice.ensures)
-          (joins (joins (joins (joins (joins (joins c.put-tag-at.ensures c.put-identifier-at.ensures) c.put-number-at.ensures)
-          c.put-tag-at-2.ensures) c.put-tag-at-3.ensures) c.put-hex-at.ensures.puts) c.put-tag.ensures);
-      fits = subst AllBytes c.as-slice.ensures c.put-hex-at.ensures.fits;
+          puts_by (sequence_parts n m c.as_slice.result.now ∙ ap (λ bs. text (sequence n m bs)) c.as_slice.ensures)
+          (joins (joins (joins (joins (joins (joins c.put_tag-at.ensures c.put_identifier-at.ensures) c.put_number-at.ensures)
+          c.put_tag-at-2.ensures) c.put_tag-at-3.ensures) c.put_hex-at.ensures.puts) c.put_tag.ensures);
+      fits = subst AllBytes c.as_slice.ensures c.put_hex-at.ensures.fits;
     }

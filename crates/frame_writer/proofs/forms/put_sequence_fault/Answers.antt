@@ -5,4 +5,4 @@ use Rattle.frame_writer.proofs.forms.put_sequence_fault.Goals as goal
 
 pub returns : goal.returns
 returns c =
-    puts_by (enclosed_parts element.SequenceFault _) (joins (joins c.put-tag-at.ensures c.put-fault-at.ensures) c.put-tag.ensures)
+    puts_by (enclosed_parts element.SequenceFault _) (joins (joins c.put_tag-at.ensures c.put_fault-at.ensures) c.put_tag.ensures)

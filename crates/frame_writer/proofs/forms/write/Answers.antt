@@ -8,4 +8,4 @@ pub returns : goal.returns
 returns c =
     let f = c.args.frame.now in
     let whole : length c.args.out.now ≡ 800 = search rules in
-    writes (meaning f) c.args.out.now _ _ whole (proper_frame f c.put-frame.ensures.fits) c.put-frame.ensures.puts
+    writes (meaning f) c.args.out.now _ _ whole (proper_frame f c.put_frame.ensures.fits) c.put_frame.ensures.puts

@@ -4,4 +4,4 @@ use Rattle.frame_writer.proofs.parts.put_about.Goals as goal
 
 pub returns : goal.returns
 unfolding detail_text
-returns c = joins c.put-code-at.ensures c.put-naming.ensures
+returns c = joins c.put_code-at.ensures c.put_naming.ensures

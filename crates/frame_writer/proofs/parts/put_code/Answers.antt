@@ -8,4 +8,4 @@ use Rattle.frame_writer.proofs.parts.put_code.Goals as goal
 pub returns : goal.returns
 returns c =
     puts_by (enclosed_parts element.FaultCode c.name.result.now ∙ ap (enclosed element.FaultCode) c.name.ensures)
-    (joins (joins c.put-tag-at.ensures c.put-at.ensures) c.put-tag.ensures)
+    (joins (joins c.put_tag-at.ensures c.put-at.ensures) c.put_tag.ensures)

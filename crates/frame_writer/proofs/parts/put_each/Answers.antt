@@ -15,7 +15,7 @@ loop-range-preserved c =
     let i = c.loop-range.range-index in
     let blank : Range = record { lower = 0; upper = 0 } in
     puts_by (ranges_more (take i rs) (get_or rs i blank) ∙ ap range_texts (sym (take_more rs i blank (omega arith))))
-    (joins c.loop-range.invariant c.put-range-end.ensures)
+    (joins c.loop-range.invariant c.put_range-end.ensures)
 
 pub returns : goal.returns
 returns c = puts_by (ap range_texts (take_all c.loop-range.range-index c.args.ranges.now (omega arith))) c.loop-range.invariant

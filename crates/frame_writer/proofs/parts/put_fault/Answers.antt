@@ -21,20 +21,20 @@ about k f g n e i t = ap (λ x. x ++ detail_text n) (named k f g e i) ∙ (t ∙
 pub returns-in-UnknownSequence : goal.returns-in-UnknownSequence
 unfolding fault_text
 returns-in-UnknownSequence c =
-    puts_by (about c.code-of-code.result c.args.fault _ c.in-UnknownSequence.identifier.value c.code-of-code.ensures c.in-UnknownSequence.is refl) c.put-about.ensures
+    puts_by (about c.code_of-code.result c.args.fault _ c.in-UnknownSequence.identifier.value c.code_of-code.ensures c.in-UnknownSequence.is refl) c.put_about.ensures
 
 pub returns-in-SequenceTerminated : goal.returns-in-SequenceTerminated
 unfolding fault_text
 returns-in-SequenceTerminated c =
-    puts_by (about c.code-of-code.result c.args.fault _ c.in-SequenceTerminated.identifier.value c.code-of-code.ensures c.in-SequenceTerminated.is refl) c.put-about-in-SequenceTerminated.ensures
+    puts_by (about c.code_of-code.result c.args.fault _ c.in-SequenceTerminated.identifier.value c.code_of-code.ensures c.in-SequenceTerminated.is refl) c.put_about-in-SequenceTerminated.ensures
 
 pub returns-in-SequenceClosed : goal.returns-in-SequenceClosed
 unfolding fault_text
 returns-in-SequenceClosed c =
-    puts_by (about c.code-of-code.result c.args.fault _ c.in-SequenceClosed.identifier.value c.code-of-code.ensures c.in-SequenceClosed.is refl) c.put-about-in-SequenceClosed.ensures
+    puts_by (about c.code_of-code.result c.args.fault _ c.in-SequenceClosed.identifier.value c.code_of-code.ensures c.in-SequenceClosed.is refl) c.put_about-in-SequenceClosed.ensures
 
 pub returns-in-CreateSequenceRefused : goal.returns-in-CreateSequenceRefused
 unfolding fault_text
 returns-in-CreateSequenceRefused c =
-    puts_by (named c.code-of-code.result c.args.fault _ c.code-of-code.ensures c.in-CreateSequenceRefused.is ∙
-    ap (λ x. fault_text (fault_meaning x)) (sym c.in-CreateSequenceRefused.is)) c.put-code.ensures
+    puts_by (named c.code_of-code.result c.args.fault _ c.code_of-code.ensures c.in-CreateSequenceRefused.is ∙
+    ap (λ x. fault_text (fault_meaning x)) (sym c.in-CreateSequenceRefused.is)) c.put_code.ensures

@@ -7,4 +7,4 @@ use Rattle.frame_writer.proofs.parts.put_identifier.Goals as goal
 pub returns : goal.returns
 returns c =
     puts_by (identifier_parts c.from.result ∙ ap identifier_text (c.from.ensures ∙ c.get.ensures))
-    (joins (joins (joins c.put-tag-at.ensures c.put-at.ensures) c.put-decimal-at.ensures) c.put-tag.ensures)
+    (joins (joins (joins c.put_tag-at.ensures c.put-at.ensures) c.put_decimal-at.ensures) c.put_tag.ensures)

@@ -6,4 +6,4 @@ use Rattle.frame_writer.proofs.parts.put_naming.Goals as goal
 pub returns : goal.returns
 returns c =
     puts_by (enclosed_parts c.args.e (identifier_text c.args.identifier.value))
-    (joins (joins c.put-tag-at.ensures c.put-identifier-at.ensures) c.put-tag.ensures)
+    (joins (joins c.put_tag-at.ensures c.put_identifier-at.ensures) c.put_tag.ensures)

@@ -7,4 +7,4 @@ use Rattle.frame_writer.proofs.parts.put_number.Goals as goal
 pub returns : goal.returns
 returns c =
     puts_by (enclosed_parts c.args.e (decimal c.get.result) ∙ ap (λ n. enclosed c.args.e (decimal n)) c.get.ensures)
-    (joins (joins c.put-tag-at.ensures c.put-decimal-at.ensures) c.put-tag.ensures)
+    (joins (joins c.put_tag-at.ensures c.put_decimal-at.ensures) c.put_tag.ensures)

@@ -5,5 +5,5 @@ pub returns : goal.returns
 returns c =
     record {
       value = c.fields.ensures;
-      exact = rw c.fields.ensures (decodes c.args.letter.now (λ k. (c.type-inv.letter k).fits));
+      exact = rw c.fields.ensures (decodes c.args.letter.now (λ k. (c.type_inv.letter k).fits));
     }

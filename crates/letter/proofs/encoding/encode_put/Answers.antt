@@ -7,6 +7,6 @@ use Rattle.letter.proofs.encoding.encode_put.Goals as goal
 pub returns : goal.returns
 returns c =
     record {
-      value = c.put-bytes.ensures;
-      back = λ good. ap decoded c.put-bytes.ensures ∙ decoded_encoded (Put c.args.path) good;
+      value = c.put_bytes.ensures;
+      back = λ good. ap decoded c.put_bytes.ensures ∙ decoded_encoded (Put c.args.path) good;
     }

@@ -5,8 +5,8 @@ use Rattle.transport.proofs.Outcomes.{got_took, took_bytes}
 use Rattle.line.proofs.frames.get_frame.Goals as goal
 
 -- what came is a frame by the law, so it fits the memory
-pub slice-bounds-result-end : goal.slice-bounds-result-end
-slice-bounds-result-end g c =
+pub slice_bounds-result-end : goal.slice_bounds-result-end
+slice_bounds-result-end g c =
     let t = got_took c.in-Some.n (c.in-Ok.is ∙ ap Ok c.in-Some.is) c.get.ensures in
     let s = g.met.T.Transport.sized _ _ t.waited in
     search rules

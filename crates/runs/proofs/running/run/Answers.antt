@@ -9,9 +9,9 @@ use Rattle.runs.proofs.Going.{none_yet, one_call, ran}
 use Rattle.runs.proofs.running.run.Goals as goal
 
 -- no memory: nothing was done
-pub returns-in-err-reserve : goal.returns-in-err-reserve
-returns-in-err-reserve g c =
-    let p = err_from_is_err_and c.from-residual.result c.from-residual.ensures.1 in
+pub returns-in_err-reserve : goal.returns-in_err-reserve
+returns-in_err-reserve g c =
+    let p = err_from_is_err_and c.from_residual.result c.from_residual.ensures.1 in
     rw p.1
     (ran g.O.Transport g.B.Transport g.K.Taker false c.args.calls.now (vec_items c.args.answers.now) (vec_items c.reserve.new.self)
     c.args.line.now c.args.line.now [] refl (c.reserve.ensures.items ∙ sym (append-nil (vec_items c.args.answers.now))) start)
@@ -19,15 +19,15 @@ returns-in-err-reserve g c =
 pub loop-call-init : goal.loop-call-init
 loop-call-init g c = (
   none_yet g.O.Transport g.B.Transport g.K.Taker c.args.calls.now (vec_items c.reserve.new.self) c.args.line.now,
-  omega (arith, c.in-ok-reserve.ensures.ok),
+  omega (arith, c.in_ok-reserve.ensures.ok),
 )
 
 pub loop-call-preserved : goal.loop-call-preserved
 loop-call-preserved g c = (
   one_call g.O.Transport g.B.Transport g.K.Taker c.args.calls.now c.loop-call.call-index c.call-item.result
-      (vec_items c.reserve.new.self) (vec_items c.loop-call.answers) (vec_items c.make-recorded.new.answers)
-      c.args.line.now c.loop-call.line c.make-recorded.new.line c.make-recorded.result
-      c.loop-call-test.true c.call-item.is c.loop-call.invariant.0 c.make-recorded.ensures.step c.make-recorded.ensures.recorded,
+      (vec_items c.reserve.new.self) (vec_items c.loop-call.answers) (vec_items c.make_recorded.new.answers)
+      c.args.line.now c.loop-call.line c.make_recorded.new.line c.make_recorded.result
+      c.loop-call-test.true c.call-item.is c.loop-call.invariant.0 c.make_recorded.ensures.step c.make_recorded.ensures.recorded,
   omega arith,
 )
 

@@ -5,8 +5,8 @@ use Rattle.frame.specs.Listed.{listed}
 use Rattle.frame.proofs.Ascents.{ascending_push, follows_parts}
 use Rattle.frame.proofs.ranges.Ranges.with.Goals as goal
 
-pub invariant-of-result : goal.invariant-of-result
-invariant-of-result c =
+pub invariant_of-result : goal.invariant_of-result
+invariant_of-result c =
     let r = c.args.self in
     let x = c.args.range in
     let f = follows_parts (listed r) x c.requires in

@@ -6,15 +6,15 @@ pub loop-init : goal.loop-init
 loop-init c k = refl
 
 pub loop-preserved : goal.loop-preserved
-loop-preserved c k = c.loop.invariant k ∙ more_on c.loop.self c.takes-range-in-loop.new.self _ _ c.loop-test.ensures k
+loop-preserved c k = c.loop.invariant k ∙ more_on c.loop.self c.takes_range-in-loop.new.self _ _ c.loop-test.ensures k
 
-pub returns-then-not-takes-range : goal.returns-then-not-takes-range
-returns-then-not-takes-range c k =
+pub returns-then-not-takes_range : goal.returns-then-not-takes_range
+returns-then-not-takes_range c k =
     c.if-takes.ensures (k []) _ ∙
-    (first_off _ _ _ _ c.new-ranges.ensures c.if-not-takes-range.ensures k ∙ ap Err (sym c.fault.ensures))
+    (first_off _ _ _ _ c.new-ranges.ensures c.if-not-takes_range.ensures k ∙ ap Err (sym c.fault.ensures))
 
 pub returns : goal.returns
 returns c k =
     c.if-takes.ensures (k []) _ ∙
-    (first_on _ _ _ _ c.new-ranges.ensures c.if-not-takes-range.ensures k ∙
+    (first_on _ _ _ _ c.new-ranges.ensures c.if-not-takes_range.ensures k ∙
     (c.loop.invariant k ∙ more_off _ _ _ _ c.loop-test.ensures k))

@@ -11,24 +11,24 @@ use Rattle.grammar.specs.Trees.{walk}
 use Rattle.frame_reader.proofs.Steps.{at_end, on_read, other_tag, range_off, no_range, far_range, near_range}
 use Rattle.frame_reader.proofs.reader.Reader.takes_range.Goals as goal
 
-pub returns-in-default : goal.returns-in-default
-returns-in-default c = record {
-  way = λ k h. at_end (range_behind (listed c.args.ranges.now)) _ _ c.in-default.ensures.none _ h;
+pub returns-in_default : goal.returns-in_default
+returns-in_default c = record {
+  way = λ k h. at_end (range_behind (listed c.args.ranges.now)) _ _ c.in_default.ensures.none _ h;
   stays = λ h. refl;
   same = refl;
 }
 
-pub returns-in-default-token : goal.returns-in-default-token
-returns-in-default-token c =
+pub returns-in_default-token : goal.returns-in_default-token
+returns-in_default-token c =
     let bs = c.args.self.now.rest.now in
-    let none = other_tag (listed c.args.ranges.now) bs c.in-Ok.lexed c.in-Ok.ensures c.in-default-token.not-Empty in
+    let none = other_tag (listed c.args.ranges.now) bs c.in-Ok.lexed c.in-Ok.ensures c.in_default-token.not-Empty in
     record { way = λ k h. range_off _ bs none _ _ h; stays = λ h. refl; same = refl }
 
-pub returns-in-default-read-range : goal.returns-in-default-read-range
-returns-in-default-read-range c =
+pub returns-in_default-read_range : goal.returns-in_default-read_range
+returns-in_default-read_range c =
     let bs = c.args.self.now.rest.now in
     let part : c.in-Empty.part.now ≡ piece bs = ap part_of (sym c.in-Empty.is) ∙ c.in-Ok.ensures.part in
-    let none = no_range (listed c.args.ranges.now) bs (ap range_read (sym part) ∙ sym c.in-default-read-range.ensures) in
+    let none = no_range (listed c.args.ranges.now) bs (ap range_read (sym part) ∙ sym c.in_default-read_range.ensures) in
     record { way = λ k h. range_off _ bs none _ _ h; stays = λ h. refl; same = refl }
 
 pub returns-then-not-push : goal.returns-then-not-push

@@ -4,6 +4,6 @@ use Rattle.letter.proofs.letter.Letter.new.Goals as goal
 
 pub returns : goal.returns
 returns c =
-    let front = ap (take (length c.args.bytes.now)) c.copy-front.ensures ∙ take_at c.args.bytes.now _ _ refl in
+    let front = ap (take (length c.args.bytes.now)) c.copy_front.ensures ∙ take_at c.args.bytes.now _ _ refl in
     let sized : (leb 1 (length c.args.bytes.now) && leb (length c.args.bytes.now) 48) ≡ true = search rules in
     rw sized (ap Some front)

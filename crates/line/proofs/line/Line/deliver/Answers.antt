@@ -9,7 +9,7 @@ pub returns-in-Ok : goal.returns-in-Ok
 returns-in-Ok g c =
     let before = c.args.self.now in
     let page = g.K.Taker.page before.taker in
-    let follows = subst (λ (l : List ℕ). Follows (g.K.Taker.step page l) page (Ok tt) (g.K.Taker.page c.take.new.self)) c.as-slice.ensures c.in-Ok.ensures in
+    let follows = subst (λ (l : List ℕ). Follows (g.K.Taker.step page l) page (Ok tt) (g.K.Taker.page c.take.new.self)) c.as_slice.ensures c.in-Ok.ensures in
     let is = handed g.K.Taker.step (seen before.office) (seen c.taken.new.office) page (g.K.Taker.page c.take.new.self) c.taken.result _ (sym c.in-Some.ensures) follows c.taken.ensures in
     record {
       given = tt;

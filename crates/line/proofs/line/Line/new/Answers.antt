@@ -8,9 +8,9 @@ use Rattle.line.proofs.line.Line.new.Goals as goal
 pub returns : goal.returns
 returns g c =
     let p = c.new.ensures in
-    let o = c.office-of.ensures in
+    let o = c.office_of.ensures in
     let is :
     model g.O.Transport g.B.Transport g.K.Taker
-    (record { planner = c.new.result; office = c.office-of.result; outward = c.args.outward; back = c.args.back; taker = c.args.taker })
+    (record { planner = c.new.result; office = c.office_of.result; outward = c.args.outward; back = c.args.back; taker = c.args.taker })
     ≡ starts (values c.args.settings.now) (g.O.Transport.waiting c.args.outward) (g.B.Transport.waiting c.args.back) (g.K.Taker.page c.args.taker) = cc in
     record { is = is; fresh = fresh c.args.settings.now _ _ _ _ is }

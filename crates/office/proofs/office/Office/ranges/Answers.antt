@@ -6,8 +6,8 @@ use Rattle.office.proofs.RunLaws.{at_most_five, apart}
 use Rattle.office.proofs.Views.{runs_contents}
 use Rattle.office.proofs.office.Office.ranges.Goals as goal
 
-pub name-ended-requires : goal.name-ended-requires
-name-ended-requires c free lt =
+pub name_ended-requires : goal.name_ended-requires
+name_ended-requires c free lt =
     let o = c.args.self.now in
     follows_at o.delivered o.places
     (at_most_five o.delivered o.places o.eight o.counted o.numbered)
@@ -19,13 +19,13 @@ name-ended-requires c free lt =
 pub loop-place-preserved : goal.loop-place-preserved
 loop-place-preserved c =
     let o = c.args.self.now in
-    rw (c.name-ended.ensures, c.start-past-lower.ensures)
+    rw (c.name_ended.ensures, c.start_past-lower.ensures)
     (going_on o.delivered o.places c.loop-place.place-index (listed c.loop-place.ranges)
     c.loop-place.lower c.loop-place.next c.place-item.result (omega arith)
     c.loop-place.invariant)
 
-pub name-run-requires : goal.name-run-requires
-name-run-requires c lt =
+pub name_run-requires : goal.name_run-requires
+name_run-requires c lt =
     let o = c.args.self.now in
     follows_out o.delivered o.places
     (at_most_five o.delivered o.places o.eight o.counted o.numbered)
@@ -38,7 +38,7 @@ pub returns : goal.returns
 unfolding ranges_of
 returns c =
     let o = c.args.self.now in
-    c.name-run.ensures
+    c.name_run.ensures
     ∙ going_out o.delivered o.places c.loop-place.place-index (listed c.loop-place.ranges)
     c.loop-place.lower c.loop-place.next (omega arith) c.loop-place.invariant
     ∙ sym (runs_contents 1 _ o.places)

@@ -7,14 +7,14 @@ use Rattle.office.proofs.ReadLaws.{lawful_from}
 use Rattle.office.proofs.Views.{sound_seen}
 use Rattle.office.proofs.office.Office.read.Goals as goal
 
-pub returns-in-err-frame : goal.returns-in-err-frame
-returns-in-err-frame c =
+pub returns-in_err-frame : goal.returns-in_err-frame
+returns-in_err-frame c =
     let o = c.args.self.now in
-    let fault = c.in-err-frame.field-0.0 in
-    let p = err_from_is_err_and c.from-residual.result c.from-residual.ensures.1 in
+    let fault = c.in_err-frame.field-0.0 in
+    let p = err_from_is_err_and c.from_residual.result c.from_residual.ensures.1 in
     rw (p.1, p.2)
     record {
-      value = ap (reads_seen (seen o)) c.in-err-frame.ensures.value;
+      value = ap (reads_seen (seen o)) c.in_err-frame.ensures.value;
       lawful = lawful_from (seen o) (Err fault.place) _ refl (sound_seen o);
     }
 
@@ -22,7 +22,7 @@ pub returns : goal.returns
 unfolding reads
 returns c =
     let o = seen c.args.self.now in
-    let frame = c.in-ok-frame.frame in
+    let frame = c.in_ok-frame.frame in
     let m = meaning frame in
     let after = c.reply.new.self in
     let answer = Ok (record { form = c.form.result; reply = c.reply.result }) in
@@ -30,6 +30,6 @@ returns c =
     = ap (answers c.form.result) c.reply.ensures
     ∙ ap (λ f. answers f (takes o m)) c.form.ensures in
     record {
-      value = value ∙ ap (reads_seen o) c.in-ok-frame.ensures.value;
+      value = value ∙ ap (reads_seen o) c.in_ok-frame.ensures.value;
       lawful = lawful_from o (Ok m) _ value (sound_seen after);
     }

@@ -9,8 +9,8 @@ pub returns : goal.returns
 unfolding is_whole
 returns c =
     let o = c.args.self.now in
-    let value : c.is-whole-at.result ≡ is_whole (seen o)
-    = c.is-whole-at.ensures
+    let value : c.is_whole_at.result ≡ is_whole (seen o)
+    = c.is_whole_at.ensures
     ∙ ap (λ n. is_over o.state && leb o.last (o.delivered + n))
     (c.front.ensures.value ∙ sym (front_contents o.places)) in
     record { value = value; law = law_from (seen o) (sound_seen o).eight _ value }

@@ -7,11 +7,11 @@ use Rattle.planner.proofs.Slots.{free_set, lowest_set}
 use Rattle.planner.proofs.Writes.{added}
 use Rattle.planner.proofs.planner.Planner.add.Goals as goal
 
-pub invariant-of-self : goal.invariant-of-self
-invariant-of-self c =
+pub invariant_of-self : goal.invariant_of-self
+invariant_of-self c =
     let p = c.args.self.now in
-    let number = c.in-ok-number.number in
-    let is = c.in-ok-number.ensures.bounds in
+    let number = c.in_ok-number.number in
+    let is = c.in_ok-number.ensures.bounds in
     let same = sym (map-set slot_of p.slots (number - p.lowest) _) in
     let rest = free_set (window_of p.slots) (p.written + 1 - p.lowest) (number + 1 - p.lowest) (number - p.lowest) _ (omega arith) (omega arith) p.rest in (
       simp length-set p.whole,
@@ -38,7 +38,7 @@ invariant-of-self c =
 
 pub returns : goal.returns
 returns c =
-    let number = c.in-ok-number.number in
-    let is = c.in-ok-number.ensures in
+    let number = c.in_ok-number.number in
+    let is = c.in_ok-number.ensures in
     added (source_of c.args.self.now) number (content c.args.letter) _ is.value is.bounds.0
     (map-set slot_of c.args.self.now.slots (number - c.args.self.now.lowest) _)

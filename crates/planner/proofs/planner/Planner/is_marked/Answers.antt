@@ -11,6 +11,6 @@ returns c =
     let k = n - p.lowest in
     let has = has_receipt (get_or (window_of p.slots) k free) in
     let le : p.lowest ≤ n = omega arith in
-    c.is-receipted.ensures ∙ ap has_receipt (sym (seen_at p.slots k c.index-self-k.result (omega arith))) ∙
+    c.is_receipted.ensures ∙ ap has_receipt (sym (seen_at p.slots k c.index-self-k.result (omega arith))) ∙
     ap (λ t. t && has) (sym (le-leb p.lowest n le)) ∙
     ap (λ t. t || (leb p.lowest n && has)) (sym (le-ltb n p.lowest le))

@@ -5,5 +5,5 @@ use Rattle.planner.proofs.planner.Planner.send.Goals as goal
 pub returns-in-Created : goal.returns-in-Created
 returns-in-Created c = record { step = search rules; due = sends_lowest_due }
 
-pub returns-in-default : goal.returns-in-default
-returns-in-default c = record { step = search rules; due = sends_lowest_due }
+pub returns-in_default : goal.returns-in_default
+returns-in_default c = record { step = search rules; due = sends_lowest_due }

@@ -7,11 +7,11 @@ use Rattle.planner.proofs.Slots.{free_set, lowest_set, in_front}
 use Rattle.planner.proofs.Sends.{sent_is}
 use Rattle.planner.proofs.planner.Planner.send_due.Goals as goal
 
-pub invariant-of-self-2 : goal.invariant-of-self-2
-invariant-of-self-2 c =
+pub invariant_of-self-2 : goal.invariant_of-self-2
+invariant_of-self-2 c =
     let p = c.args.self.now in
-    let place = c.in-ok-due.due.place in
-    let stands = c.in-ok-due.ensures.stands in
+    let place = c.in_ok-due.due.place in
+    let stands = c.in_ok-due.ensures.stands in
     let same = sym (map-set slot_of p.slots place _) in
     let few = p.written + 1 - p.lowest in
     let front = in_front (window_of p.slots) few place stands.1 p.rest in
@@ -29,7 +29,7 @@ invariant-of-self-2 c =
                 p.near,
                 (
                   subst (FreeFrom few) same rest,
-                  (subst Lowest same (lowest_set (window_of p.slots) place _ (ap has_receipt c.once-sent.ensures) p.first), (p.known, (p.nameless, (p.creditless, tt)))),
+                  (subst Lowest same (lowest_set (window_of p.slots) place _ (ap has_receipt c.once_sent.ensures) p.first), (p.known, (p.nameless, (p.creditless, tt)))),
                 ),
               ),
             ),
@@ -41,6 +41,6 @@ invariant-of-self-2 c =
 pub returns : goal.returns
 returns c =
     let p = c.args.self.now in
-    let place = c.in-ok-due.due.place in
-    sent_is (source_of p) c.args.clock (due_of c.in-ok-due.due) _ _ c.in-ok-due.ensures.value
-    (map-set slot_of p.slots place _ ∙ ap (set (window_of p.slots) place) c.once-sent.ensures) c.sequence-frame-frame.ensures
+    let place = c.in_ok-due.due.place in
+    sent_is (source_of p) c.args.clock (due_of c.in_ok-due.due) _ _ c.in_ok-due.ensures.value
+    (map-set slot_of p.slots place _ ∙ ap (set (window_of p.slots) place) c.once_sent.ensures) c.sequence_frame-frame.ensures

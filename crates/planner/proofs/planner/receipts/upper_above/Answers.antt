@@ -4,18 +4,18 @@ use Rattle.planner.specs.Receipts.{first_above}
 use Rattle.planner.proofs.Turns.{above_more, no_range}
 use Rattle.planner.proofs.planner.receipts.upper_above.Goals as goal
 
-pub returns-then-is-above : goal.returns-then-is-above
-returns-then-is-above c =
+pub returns-then-is_above : goal.returns-then-is_above
+returns-then-is_above c =
     let rs = c.args.ranges.now in
     let i = c.loop-range.range-index in
-    ap (λ t. cond t (Some (get_or rs i no_range).upper) (first_above (drop (i + 1) rs) c.args.n)) c.if-is-above.ensures ∙
+    ap (λ t. cond t (Some (get_or rs i no_range).upper) (first_above (drop (i + 1) rs) c.args.n)) c.if-is_above.ensures ∙
     sym (above_more rs i c.args.n (omega arith)) ∙ c.loop-range.invariant
 
 pub loop-range-preserved : goal.loop-range-preserved
 loop-range-preserved c =
     let rs = c.args.ranges.now in
     let i = c.loop-range.range-index in
-    ap (λ t. cond t (Some (get_or rs i no_range).upper) (first_above (drop (i + 1) rs) c.args.n)) c.if-is-above.ensures ∙
+    ap (λ t. cond t (Some (get_or rs i no_range).upper) (first_above (drop (i + 1) rs) c.args.n)) c.if-is_above.ensures ∙
     sym (above_more rs i c.args.n (omega arith)) ∙ c.loop-range.invariant
 
 pub returns : goal.returns

@@ -6,19 +6,19 @@ use Rattle.taker.proofs.Orders.{ascending_without}
 use Rattle.taker.proofs.Pages.{step_is}
 use Rattle.taker.proofs.book.Book.withdraw.Goals as goal
 
-pub invariant-of-self : goal.invariant-of-self
-invariant-of-self c =
+pub invariant_of-self : goal.invariant_of-self
+invariant_of-self c =
     let kept =
     ascending_without c.args.train c.args.section (vec_items c.args.self.now.paths) c.args.self.now.ordered in (
-      omega (arith, c.remove-path.ensures.len, c.args.self.now.few),
+      omega (arith, c.remove_path.ensures.len, c.args.self.now.few),
       (
-        omega (arith, c.remove-path.ensures.capacity, c.args.self.now.room),
-        (ap ascending c.remove-path.ensures.items ∙ kept, (c.args.self.now.counted, tt)),
+        omega (arith, c.remove_path.ensures.capacity, c.args.self.now.room),
+        (ap ascending c.remove_path.ensures.items ∙ kept, (c.args.self.now.counted, tt)),
       ),
     )
 
 pub returns : goal.returns
 returns c =
-    ap (λ l. Some (page_of c.args.self.now.spoilt l)) c.remove-path.ensures.items ∙
+    ap (λ l. Some (page_of c.args.self.now.spoilt l)) c.remove_path.ensures.items ∙
     sym (step_is c.args.self.now.spoilt (vec_items c.args.self.now.paths)
     (Some (Withdrawal c.args.train c.args.section)))

@@ -10,10 +10,10 @@ returns-in-Held c =
       capacity = c.remove.ensures.capacity;
     }
 
-pub returns-in-default : goal.returns-in-default
-returns-in-default c =
+pub returns-in_default : goal.returns-in_default
+returns-in_default c =
     record {
-      items = kept_free _ _ c.deref.ensures.value c.requires.ordered _ _ _ c.in-default.ensures.value;
+      items = kept_free _ _ c.deref.ensures.value c.requires.ordered _ _ _ c.in_default.ensures.value;
       len = omega arith;
       capacity = refl;
     }

@@ -5,4 +5,4 @@ use Rattle.transport.proofs.slot.Slot.store.Goals as goal
 pub returns : goal.returns
 returns c =
     let frame = c.args.frame.now in
-    ap (take (length frame)) c.copy-front.ensures ∙ take_at frame _ _ refl
+    ap (take (length frame)) c.copy_front.ensures ∙ take_at frame _ _ refl
