@@ -1,5 +1,5 @@
 -- Every frame of the code is within bounds, by its type.
-use Rattle.std.proofs.Common.{◌≡◌, ℕ, ◌≤◌, length, Some, None, Option, arith}
+use Rattle.std.proofs.Common.{◌≡◌, length, Some, None, Option, arith}
 use Rattle.std.specs.Option.{option_map}
 use Rattle.std.proofs.lemmas.List.{length-take-le}
 use Rattle.letter.specs.Letters.{content}

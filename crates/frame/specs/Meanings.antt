@@ -1,5 +1,5 @@
 -- What a frame says, in numbers and lists: all that the text, the ends and the theorems speak of.
-use Rattle.std.specs.Prelude.{◌≡◌, ℕ, ◌<◌, ◌≤◌, Bool, true, ◌&&◌, List, [], ◌∷◌, length, Some, None, Option}
+use Rattle.std.specs.Prelude.{◌≡◌, ℕ, ◌<◌, ◌≤◌, Bool, true, List, [], ◌∷◌, length, Some, None, Option}
 use Rattle.std.specs.Option.{option_map}
 use Rattle.letter.specs.Letters.{content}
 use Rattle.frame.specs.Ascending.{ascending}

@@ -1,14 +1,13 @@
 -- Every way through the grammar spells the pieces of the frame at its end, and no way is without an end.
-use Rattle.std.proofs.Common.{◌≡◌, ℕ, zero, suc, ◌+◌, ◌<◌, ◌≤◌, Bool, true, false, List, [], ◌∷◌, ◌++◌, map, length, Some, None, decimal, Option, sym, refl, ap, ◌∙◌, subst, inl, inr, arith, lit<, lit≤, length-append}
+use Rattle.std.proofs.Common.{◌≡◌, ℕ, zero, suc, ◌≤◌, true, false, List, [], ◌∷◌, ◌++◌, length, Some, None, decimal, Option, refl, ap, ◌∙◌, subst, inl, inr, arith, lit<, lit≤, length-append}
 use Rattle.std.proofs.lemmas.List.{append_assoc, map_push}
-use Rattle.frame.specs.Ascending.{ascending, follows, next_low}
+use Rattle.frame.specs.Ascending.{ascending}
 use Rattle.frame.specs.Bounds.{IsIdentifier, IsNumber}
 use Rattle.frame.specs.Meanings.{Meaning, create_sequence, create_sequence_response, sequence, ack_requested, sequence_acknowledgement, close_sequence, close_sequence_response, terminate_sequence, terminate_sequence_response, sequence_fault}
 use Rattle.frame.specs.Meanings.{FaultMeaning, unknown_sequence, sequence_terminated, sequence_closed, create_sequence_refused, IsFault, IsLast, IsReceipt, Proper}
 use Rattle.frame.specs.declared.range.Range.{Range}
 use Rattle.frame.proofs.Ascents.{ascending_push, follows_parts}
 use Rattle.pieces.specs.Attributes.{range_text}
-use Rattle.pieces.specs.Names.{fault_name}
 use Rattle.pieces.specs.Tags.{tag_text}
 use Rattle.pieces.specs.declared.names.Element.{Element}
 use Rattle.pieces.specs.declared.names.Element.TheVariants as element
@@ -16,12 +15,12 @@ use Rattle.pieces.specs.declared.names.FaultCode.{FaultCode}
 use Rattle.pieces.specs.declared.names.FaultCode.TheVariants as code
 use Rattle.pieces.specs.declared.token.Tag.{Tag}
 use Rattle.pieces.specs.declared.token.Tag.TheVariants as tag
-use Rattle.grammar.specs.Grammar.{tagged, only, one, within, ends, identifier_part, again_part, number_part, more_ranges, ranges_part, final_part, after_final, after_receipt, after_ranges, credit_part, naming_tree, last_part, ending_tree, detail_part, sequence_tree, receipt_tree, fault_tree, grammar}
+use Rattle.grammar.specs.Grammar.{tagged, only, one, within, ends, identifier_part, again_part, more_ranges, ranges_part, after_final, after_ranges, credit_part, naming_tree, ending_tree, detail_part, sequence_tree, fault_tree, grammar}
 use Rattle.grammar.specs.Kinds.{Kind, Value, spell, Good, identifier, again, number, range_behind, letter, fault_code}
 use Rattle.grammar.specs.Kinds as kind
 use Rattle.grammar.specs.Trees.{Tree, stop, whole, reads}
 use Rattle.grammar.proofs.Paths.{Alive, Fits}
-use Rattle.grammar.proofs.Words.{Words, open_word, close_word, identifier_words, naming_words, last_words, ending_words, ranges_words, head_words, receipt_words, code_words, fault_words, wording}
+use Rattle.grammar.proofs.Words.{Words, open_word, close_word, identifier_words, naming_words, ending_words, ranges_words, head_words, receipt_words, code_words, fault_words, wording}
 
 -- behind the pieces ps: each frame that the tree reaches is spelt so
 pub record Fit (ps : Words) (g : Tree) : Type 0 where

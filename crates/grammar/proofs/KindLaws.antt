@@ -1,5 +1,5 @@
 -- The two laws of each kind of piece: what was read is spelt so, and what is spelt so is read.
-use Rattle.std.proofs.Common.{◌≡◌, ℕ, ◌+◌, ◌≤◌, true, cond, List, [], ◌∷◌, ◌++◌, length, Some, None, decimal, Option, sym, refl, ap, ◌∙◌, inl, inr, arith, lit≤}
+use Rattle.std.proofs.Common.{◌≡◌, ℕ, ◌+◌, ◌≤◌, cond, List, [], ◌∷◌, ◌++◌, length, Some, None, decimal, sym, refl, ap, ◌∙◌, arith, lit≤}
 use Rattle.std.specs.Str.{bytes_eq}
 use Rattle.std.proofs.lemmas.Slice.Eq.{bytes_eq-Decides}
 use Rattle.std.proofs.lemmas.Bool.{cond-true, cond-false}
@@ -8,7 +8,7 @@ use Rattle.frame.specs.declared.range.Range.{Range}
 use Rattle.frame.proofs.Ascents.{starts, follows_parts}
 use Rattle.pieces.specs.Attributes.{range_read, range_text}
 use Rattle.pieces.specs.Hex.{read_pairs}
-use Rattle.pieces.specs.Strips.{strip_of, then}
+use Rattle.pieces.specs.Strips.{strip_of}
 use Rattle.pieces.specs.Tags.{tag_text}
 use Rattle.pieces.specs.Values.{urn}
 use Rattle.pieces.proofs.Attributes.{Held, range_is, is_range}

@@ -1,9 +1,9 @@
 -- Every way through a tree spells the pieces of the form at its end.
-use Rattle.std.proofs.Common.{◌≡◌, ℕ, ◌+◌, ◌-◌, ◌<◌, ◌≤◌, ◌⊎◌, List, [], ◌∷◌, ◌++◌, length, Some, None, Ok, Err, Option, Result, sym, refl, ap, ◌∙◌, subst, inl, inr, arith}
+use Rattle.std.proofs.Common.{◌≡◌, ℕ, ◌-◌, ◌<◌, ◌⊎◌, List, [], ◌∷◌, ◌++◌, length, Some, None, Ok, Err, Result, sym, refl, ap, ◌∙◌, subst, inl, inr, arith}
 use Rattle.std.proofs.lemmas.List.{append-nil, append_assoc}
 use Rattle.pieces.specs.Cuts.{piece, after}
 use Rattle.frame.specs.Meanings.{Meaning, Proper}
-use Rattle.grammar.specs.Kinds.{Kind, Value, reader, spell, Good}
+use Rattle.grammar.specs.Kinds.{Value, reader, spell, Good}
 use Rattle.grammar.specs.Trees.{Tree, stop, whole, reads, walk}
 use Rattle.grammar.specs.Places.{Cut}
 use Rattle.pieces.proofs.Options.{cases_option}

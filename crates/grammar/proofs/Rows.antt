@@ -1,5 +1,5 @@
 -- A row of pieces whose joined text is cut into just these pieces.
-use Rattle.std.proofs.Common.{◌≡◌, ℕ, ◌+◌, ◌^◌, ◌<◌, ◌≤◌, Bool, true, not, ◌&&◌, eqb, List, [], ◌∷◌, ◌++◌, length, take, drop, codes, decimal, sym, refl, ap, ◌∙◌, subst, arith, lit<, length-append}
+use Rattle.std.proofs.Common.{◌≡◌, ℕ, ◌^◌, ◌<◌, true, not, eqb, List, [], ◌∷◌, ◌++◌, length, take, drop, codes, decimal, sym, refl, ap, ◌∙◌, subst, arith, lit<, length-append}
 use borrow.Author.Tests.{not-true}
 use Rattle.std.proofs.lemmas.Fmt.{decimal_nonempty}
 use Rattle.std.proofs.lemmas.List.{append_assoc, take_at, drop_at}
@@ -7,8 +7,8 @@ use Rattle.std.proofs.lemmas.Bool.{cond-false, and_parts}
 use Rattle.frame.specs.Bounds.{IsIdentifier, IsNumber}
 use Rattle.frame.specs.Meanings.{IsLetter}
 use Rattle.frame.specs.declared.range.Range.{Range}
-use Rattle.pieces.specs.Attributes.{range_text, range_between, range_closes}
-use Rattle.pieces.specs.Cuts.{before, piece, after, piece_len}
+use Rattle.pieces.specs.Attributes.{range_text, range_between}
+use Rattle.pieces.specs.Cuts.{piece, after, piece_len}
 use Rattle.pieces.specs.Hex.{hex_text, is_hex}
 use Rattle.pieces.specs.Names.{fault_name}
 use Rattle.pieces.specs.Numbers.{digit}

@@ -1,5 +1,5 @@
 -- The text of each frame is its pieces one after another, and is cut into just these.
-use Rattle.std.proofs.Common.{◌≡◌, ℕ, ◌+◌, ◌^◌, ◌<◌, ◌≤◌, Bool, true, false, List, [], ◌∷◌, ◌++◌, map, length, Some, None, decimal, Option, sym, refl, ap, ◌∙◌, subst, arith}
+use Rattle.std.proofs.Common.{◌≡◌, ℕ, ◌+◌, Bool, true, false, List, [], ◌∷◌, ◌++◌, map, Some, None, decimal, Option, sym, refl, ap, ◌∙◌, subst, arith}
 use Rattle.std.proofs.lemmas.List.{append-nil, append_assoc}
 use Rattle.std.proofs.lemmas.Bool.{and_parts}
 use Rattle.frame.specs.Ascending.{ascending, starts_at}
@@ -22,7 +22,7 @@ use Rattle.grammar.specs.Places.{Cut}
 use Rattle.grammar.specs.Texts.{enclosed, identifier_text, last_text, range_texts, ranges_text, final_text, receipt_text, detail_text, fault_text, text}
 use Rattle.grammar.proofs.Rows.{Row, row_cut, whole_tag, whole_range, whole_number, whole_identifier, whole_letter, whole_fault}
 use Rattle.grammar.proofs.Walks.{concat}
-use Rattle.grammar.proofs.Words.{Words, open_word, close_word, within_words, identifier_words, naming_words, last_words, ending_words, ranges_words, final_words, credit_words, head_words, receipt_words, code_words, fault_words, wording}
+use Rattle.grammar.proofs.Words.{Words, open_word, close_word, within_words, identifier_words, naming_words, last_words, ending_words, ranges_words, final_words, credit_words, receipt_words, code_words, fault_words, wording}
 
 concat_append : (ps qs : Words) → concat (ps ++ qs) ≡ concat ps ++ concat qs
 concat_append [] qs = refl

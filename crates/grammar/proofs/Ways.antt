@@ -1,5 +1,5 @@
 -- The pieces of each frame lead through the grammar to that frame.
-use Rattle.std.proofs.Common.{◌≡◌, ℕ, zero, suc, ◌+◌, ◌<◌, ◌≤◌, Bool, true, false, ltb, leb, List, [], ◌∷◌, ◌++◌, map, length, Some, None, decimal, Option, sym, refl, ap, ◌∙◌, arith, length-append, lt-ltb}
+use Rattle.std.proofs.Common.{◌≡◌, ℕ, zero, suc, ◌+◌, ◌≤◌, Bool, true, false, ltb, List, [], ◌∷◌, ◌++◌, map, length, Some, None, decimal, Option, sym, refl, ap, ◌∙◌, arith, length-append, lt-ltb}
 use Rattle.std.proofs.lemmas.List.{append-nil, append_assoc}
 use Rattle.std.proofs.lemmas.Bool.{and_parts, and_from}
 use Rattle.frame.specs.Ascending.{ascending, follows, next_low, starts_at}
@@ -10,7 +10,6 @@ use Rattle.frame.specs.declared.range.Range.{Range}
 use Rattle.frame.proofs.Ascents.{next_push}
 use Rattle.pieces.specs.Attributes.{range_text, range_read}
 use Rattle.pieces.specs.Hex.{hex_text}
-use Rattle.pieces.specs.Names.{fault_name}
 use Rattle.pieces.specs.Strips.{strip_of}
 use Rattle.pieces.specs.Tags.{tag_text}
 use Rattle.pieces.specs.declared.names.Element.{Element}
@@ -19,13 +18,13 @@ use Rattle.pieces.specs.declared.names.FaultCode.{FaultCode}
 use Rattle.pieces.specs.declared.names.FaultCode.TheVariants as code
 use Rattle.pieces.specs.declared.token.Tag.{Tag}
 use Rattle.pieces.specs.declared.token.Tag.TheVariants as tag
-use Rattle.grammar.specs.Grammar.{tagged, only, one, within, ends, identifier_part, again_part, number_part, more_ranges, ranges_part, final_part, after_final, after_receipt, after_ranges, credit_part, naming_tree, last_part, ending_tree, detail_part, fault_part, sequence_tree, receipt_tree, fault_tree, grammar}
+use Rattle.grammar.specs.Grammar.{tagged, only, one, within, ends, identifier_part, again_part, more_ranges, ranges_part, after_final, after_receipt, after_ranges, credit_part, naming_tree, last_part, ending_tree, detail_part, grammar}
 use Rattle.grammar.specs.Kinds.{Kind, Value, reader, spell, Good, identifier, again, number, range_behind, letter, fault_code}
 use Rattle.grammar.specs.Kinds as kind
 use Rattle.grammar.specs.Trees.{Tree, stop, whole, reads}
 use Rattle.grammar.proofs.KindLaws.{is_reader}
 use Rattle.grammar.proofs.Walks.{pick, next, run}
-use Rattle.grammar.proofs.Words.{Words, open_word, close_word, within_words, identifier_words, naming_words, last_words, ending_words, ranges_words, final_words, credit_words, head_words, receipt_words, code_words, fault_words, wording}
+use Rattle.grammar.proofs.Words.{Words, open_word, close_word, within_words, identifier_words, naming_words, last_words, ranges_words, final_words, credit_words, receipt_words, code_words, fault_words, wording}
 
 -- one piece, first in its tree
 run_read : (κ : Kind) (a : Value κ) (k : Value κ → Tree) (h : Tree) (ps : Words) → Good κ a

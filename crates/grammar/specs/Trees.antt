@@ -1,5 +1,5 @@
 -- Which pieces may follow one another, as a tree, and where bytes lead in it.
-use Rattle.std.specs.Prelude.{ℕ, ◌-◌, List, [], ◌∷◌, length, Some, None, Ok, Err, Option, Result}
+use Rattle.std.specs.Prelude.{ℕ, ◌-◌, List, [], ◌∷◌, length, Some, None, Ok, Err, Result}
 use Rattle.frame.specs.Meanings.{Meaning}
 use Rattle.pieces.specs.Cuts.{piece, after}
 use Rattle.grammar.specs.Kinds.{Kind, Value, reader}

@@ -1,12 +1,12 @@
 -- What is read as a range is the text of that range, and the other way round.
-use Rattle.std.proofs.Common.{◌≡◌, ℕ, ◌+◌, ◌^◌, ◌<◌, ◌≤◌, cond, eqb, List, [], ◌∷◌, ◌++◌, length, take, drop, Some, None, decimal, Option, sym, refl, ap, ◌∙◌, arith, eqb-true}
+use Rattle.std.proofs.Common.{◌≡◌, ℕ, ◌^◌, ◌<◌, ◌≤◌, eqb, List, [], ◌∷◌, ◌++◌, length, take, drop, Some, None, decimal, Option, sym, refl, ap, ◌∙◌, arith, eqb-true}
 use Rattle.std.specs.Option.{option_map}
 use Rattle.std.proofs.lemmas.List.{take_at, drop_at, take-append-drop, nil_from_length}
 use Rattle.frame.specs.declared.range.Range.{Range}
 use Rattle.pieces.specs.Attributes.{range_opens, range_between, range_closes, range_text, field_of, range_end, range_read}
 use Rattle.pieces.specs.Cuts.{before}
-use Rattle.pieces.specs.Numbers.{digit, plain}
-use Rattle.pieces.specs.Strips.{strip_of, then}
+use Rattle.pieces.specs.Numbers.{plain}
+use Rattle.pieces.specs.Strips.{strip_of}
 use Rattle.pieces.proofs.Finds.{before_beyond}
 use Rattle.pieces.proofs.Numbers.{plain_is, is_plain, decimal_without}
 use Rattle.pieces.proofs.Options.{none_some, some_cond, then_is, then_some}

@@ -1,5 +1,5 @@
 -- What is read as an identifier, a number or a fault's name is its text, and the other way round.
-use Rattle.std.proofs.Common.{◌≡◌, ℕ, ◌≤◌, true, cond, ◌&&◌, leb, ◌⊎◌, List, ◌++◌, Some, None, decimal, Option, sym, refl, ap, ◌∙◌, inl, inr, arith, le-leb, leb-true}
+use Rattle.std.proofs.Common.{◌≡◌, ℕ, ◌≤◌, cond, ◌&&◌, leb, ◌⊎◌, List, ◌++◌, Some, None, decimal, Option, sym, refl, ap, ◌∙◌, inl, inr, arith, le-leb, leb-true}
 use Rattle.std.specs.Str.{bytes_eq}
 use Rattle.std.proofs.lemmas.Slice.Eq.{bytes_eq-Decides as sameBytes-decides}
 use Rattle.std.proofs.lemmas.Bool.{cond-true, cond-false, cases_Bool, and_parts, and_from}

@@ -1,5 +1,5 @@
 -- The tag of a range: its two numbers as attributes, Upper first.
-use Rattle.std.specs.Prelude.{ℕ, cond, List, [], ◌∷◌, ◌++◌, length, take, drop, Some, None, codes, decimal, Option, ◌==◌}
+use Rattle.std.specs.Prelude.{ℕ, cond, List, ◌++◌, length, take, drop, Some, None, codes, decimal, Option, ◌==◌}
 use Rattle.std.specs.Option.{option_map}
 use Rattle.frame.specs.declared.range.Range.{Range}
 use Rattle.pieces.specs.Cuts.{before}
