@@ -1,5 +1,5 @@
 -- The steps of the walk, as the reading functions take them.
-use Rattle.std.proofs.Common.{◌≡◌, ℕ, zero, suc, ◌+◌, ◌-◌, ◌<◌, Bool, true, false, cond, ◌&&◌, eqb, List, [], ◌∷◌, ◌++◌, length, get_or, take, Some, None, Ok, Err, decimal, Option, Result, sym, refl, ap, ◌∙◌, inl, inr, arith, Bor, eqb-true}
+use Rattle.std.proofs.Common.{◌≡◌, ℕ, zero, suc, ◌+◌, ◌-◌, ◌<◌, Bool, true, false, cond, eqb, List, [], ◌∷◌, ◌++◌, length, get_or, take, Some, None, Ok, Err, decimal, Option, sym, refl, ap, ◌∙◌, inl, inr, arith, Bor, eqb-true}
 use Rattle.std.specs.Str.{bytes_eq}
 use Rattle.std.proofs.lemmas.Slice.Eq.{bytes_eq-Decides}
 use Rattle.std.proofs.lemmas.Bool.{cond-true, cond-false, cases_Bool, cases_lt}
@@ -10,9 +10,9 @@ use Rattle.frame.specs.declared.range.Range.{Range}
 use Rattle.pieces.specs.Attributes.{range_read}
 use Rattle.pieces.specs.Cuts.{piece, after, piece_len, shape, words, empty}
 use Rattle.pieces.specs.Hex.{read_pairs}
-use Rattle.pieces.specs.Strips.{strip_of, then}
+use Rattle.pieces.specs.Strips.{strip_of}
 use Rattle.pieces.specs.Tags.{tag_text}
-use Rattle.pieces.specs.Tokens.{part_of, shape_of, is_tag, First, Ended}
+use Rattle.pieces.specs.Tokens.{shape_of, is_tag, First}
 use Rattle.pieces.specs.Values.{urn, identifier_read}
 use Rattle.pieces.specs.declared.fault.ReadFault.{ReadFault}
 use Rattle.pieces.specs.declared.names.Element.TheVariants as element

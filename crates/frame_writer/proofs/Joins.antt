@@ -1,5 +1,5 @@
 -- Parts written one behind another.
-use Rattle.std.proofs.Common.{◌≡◌, ℕ, suc, ◌+◌, ◌<◌, ◌≤◌, List, [], ◌∷◌, ◌++◌, length, take, drop, set, sym, refl, ap, ◌∙◌, subst, add-one, arith, length-append}
+use Rattle.std.proofs.Common.{◌≡◌, ℕ, ◌+◌, ◌<◌, ◌≤◌, List, [], ◌∷◌, ◌++◌, length, take, drop, set, sym, refl, ap, ◌∙◌, subst, add-one, arith, length-append}
 use Rattle.std.proofs.lemmas.List.{append_assoc, length-set, length-take-le, set_split, take_at, drop_at, drop-drop, take-append-drop}
 use Rattle.frame_writer.specs.Putting.{Puts}
 

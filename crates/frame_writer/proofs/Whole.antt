@@ -1,5 +1,5 @@
 -- A whole frame written from the start of memory that is long enough.
-use Rattle.std.proofs.Common.{◌≡◌, ℕ, ◌+◌, ◌≤◌, List, ◌++◌, length, drop, refl, ap, ◌∙◌, zero-add, arith}
+use Rattle.std.proofs.Common.{◌≡◌, ℕ, ◌+◌, ◌≤◌, List, ◌++◌, length, drop, ap, ◌∙◌, zero-add, arith}
 use Rattle.frame.specs.Meanings.{Meaning, Proper}
 use Rattle.grammar.specs.Texts.{text}
 use Rattle.grammar.proofs.Theorem.{apart}

@@ -8,17 +8,15 @@ use Rattle.frame.specs.declared.number.Number.{Number}
 use Rattle.frame.specs.declared.range.Range.{Range}
 use Rattle.pieces.specs.Attributes.{range_text, range_opens, range_between, range_closes}
 use Rattle.pieces.specs.Hex.{hex_char, hex_text}
-use Rattle.pieces.specs.Names.{element_name, fault_name}
 use Rattle.pieces.specs.Tags.{tag_text}
 use Rattle.pieces.specs.Values.{urn}
 use Rattle.pieces.specs.declared.names.Element.{Element}
 use Rattle.pieces.specs.declared.names.Element.TheVariants as element
-use Rattle.pieces.specs.declared.names.FaultCode.{FaultCode}
 use Rattle.pieces.specs.declared.token.Tag.TheVariants as tag
 use Rattle.frame_writer.specs.Chosen.{bounds_text, final_mark, last_number}
 use Rattle.frame_writer.specs.Putting.{Puts, PutsAny}
 use Rattle.frame_writer.proofs.Joins.{puts_none}
-use Rattle.grammar.specs.Texts.{enclosed, identifier_text, range_texts, ranges_text, final_text, last_text, receipt_text, fault_text, text}
+use Rattle.grammar.specs.Texts.{enclosed, identifier_text, range_texts, ranges_text, final_text, last_text, receipt_text, text}
 
 -- bytes in digits
 pub hex_none : [] ≡ hex_text []

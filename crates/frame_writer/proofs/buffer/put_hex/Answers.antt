@@ -1,4 +1,4 @@
-use Rattle.std.proofs.Common.{◌≡◌, ◌/◌, ◌%◌, [], ◌∷◌, ◌++◌, get_or, take, sym, ap, ◌∙◌, arith}
+use Rattle.std.proofs.Common.{◌/◌, [], ◌∷◌, ◌++◌, get_or, take, sym, ap, ◌∙◌, arith}
 use Rattle.std.proofs.lemmas.List.{take_more, take_all}
 use Rattle.pieces.specs.Hex.{hex_char, hex_text}
 use Rattle.frame_writer.proofs.Joins.{puts_none, joins, puts_by}

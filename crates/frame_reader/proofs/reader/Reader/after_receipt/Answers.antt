@@ -1,4 +1,4 @@
-use Rattle.std.proofs.Common.{◌≡◌, Err, sym, ap, ◌∙◌, eqb-true}
+use Rattle.std.proofs.Common.{Err, sym, ap, ◌∙◌, eqb-true}
 use Rattle.std.proofs.lemmas.Bool.{eqb-false}
 use Rattle.frame.specs.Listed.{listed}
 use Rattle.grammar.specs.Grammar.{after_receipt}

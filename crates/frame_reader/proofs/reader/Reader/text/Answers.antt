@@ -1,4 +1,3 @@
-use Rattle.std.proofs.Common.{◌≡◌}
 use Rattle.frame_reader.proofs.Steps.{no_words}
 use Rattle.frame_reader.proofs.reader.Reader.text.Goals as goal
 
