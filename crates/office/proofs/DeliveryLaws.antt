@@ -7,7 +7,7 @@ use Rattle.office.specs.Deliveries.{Delivery, delivery, delivers, delivers_first
 use Rattle.office.specs.Deliveries.{number_of}
 use Rattle.office.specs.Destinations.{Destination, with_places}
 use Rattle.office.specs.Laws.{Keeps}
-use Rattle.office.specs.Places.{shifted, place_of, has_place}
+use Rattle.office.specs.Places.{shifted}
 use Rattle.office.proofs.Shifts.{at_shifted}
 
 shifted_keeps : {A : Type 0} (d : ℕ) (ps : List (Option A)) (n : ℕ)

@@ -1,10 +1,10 @@
 -- Every read is lawful, by state and form.
-use Rattle.std.proofs.Common.{◌≡◌, ℕ, zero, suc, Bool, true, false, ◌&&◌, ◌||◌, leb, ◌⊎◌, List, [], ◌∷◌, get_or, set, is_some, Some, None, Ok, Err, Option, Result, sym, refl, ap, subst, inl, inr}
+use Rattle.std.proofs.Common.{◌≡◌, ℕ, zero, suc, Bool, true, false, ◌&&◌, ◌||◌, leb, ◌⊎◌, List, [], ◌∷◌, get_or, set, is_some, Some, None, Ok, Err, Option, Result, sym, refl, subst, inl, inr}
 use Rattle.frame.specs.Meanings.{Meaning, create_sequence, create_sequence_response, sequence}
 use Rattle.frame.specs.Meanings.{ack_requested, sequence_acknowledgement, close_sequence}
 use Rattle.frame.specs.Meanings.{close_sequence_response, terminate_sequence}
 use Rattle.frame.specs.Meanings.{terminate_sequence_response, sequence_fault}
-use Rattle.office.specs.Accepted.{is_accepted, accepted_at}
+use Rattle.office.specs.Accepted.{is_accepted}
 use Rattle.office.specs.Destinations.{Destination, accepts, is_new, with_state}
 use Rattle.office.specs.Laws.{Keeps, Admits, Moves, stays, creates, closes, terminates, terminates_closed}
 use Rattle.office.specs.Laws.{Tells, Lawful}

@@ -1,5 +1,5 @@
 -- The acknowledgement of an office's end is exact.
-use Rattle.std.proofs.Common.{◌≡◌, ℕ, ◌≤◌, length, refl}
+use Rattle.std.proofs.Common.{◌≡◌, ◌≤◌, length, refl}
 use Rattle.frame.specs.Bounds.{M}
 use Rattle.office.specs.Accepted.{Exact, is_accepted}
 use Rattle.office.specs.Destinations.{Destination, ranges_of, credit_of}

@@ -1,14 +1,14 @@
 -- What does not look into a letter is the same of letters and of their bytes.
-use Rattle.std.proofs.Common.{◌≡◌, ℕ, zero, suc, ◌+◌, Bool, true, false, ◌&&◌, ◌||◌, leb, List, [], ◌∷◌, ◌++◌, map, length, get_or, set, is_some, Some, None, Option, sym, refl, ap, ◌∙◌, Bor}
+use Rattle.std.proofs.Common.{◌≡◌, ℕ, zero, suc, ◌+◌, Bool, true, false, ◌&&◌, ◌||◌, leb, List, [], ◌∷◌, ◌++◌, get_or, is_some, Some, None, Option, sym, refl, ap, ◌∙◌, Bor}
 use lib.ListN.{length-map}
 use lib.Seq.{map-set}
-use Rattle.std.proofs.lemmas.List.{drop-map, map-append}
+use Rattle.std.proofs.lemmas.List.{map-append}
 use Rattle.std.specs.Option.{option_map}
 use Rattle.letter.specs.Letters.{content}
 use Rattle.letter.specs.declared.letter.Letter.{Letter}
 use Rattle.office.specs.Accepted.{accepted_at}
 use Rattle.office.specs.Deliveries.{first, delivery, delivers, number_of}
-use Rattle.office.specs.Destinations.{Destination, accepts, is_new, with_places}
+use Rattle.office.specs.Destinations.{accepts, is_new, with_places}
 use Rattle.office.specs.Places.{has_place, place_of, is_free, kept, shifted}
 use Rattle.office.specs.Ranges.{run, runs}
 use Rattle.office.specs.Seen.{contents, seen}

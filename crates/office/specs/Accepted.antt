@@ -1,5 +1,5 @@
 -- Which message numbers are accepted, and what an acknowledgement must say of them.
-use Rattle.std.specs.Prelude.{◌≡◌, ℕ, ◌+◌, ◌≤◌, min, Bool, true, false, ◌&&◌, ◌||◌, List, [], ◌∷◌, length, is_some, None, Option, nat_le, slice_index_or}
+use Rattle.std.specs.Prelude.{◌≡◌, ℕ, ◌+◌, ◌≤◌, min, Bool, true, ◌&&◌, ◌||◌, List, length, is_some, None, Option, nat_le, slice_index_or}
 use Rattle.frame.specs.Ascending.{ascending}
 use Rattle.frame.specs.Bounds.{M}
 use Rattle.frame.specs.Covers as ranges

@@ -1,6 +1,6 @@
 -- The office's end in numbers and lists, and the parts of its steps.
 -- Theorems on a whole line speak of this and never of the code's own types.
-use Rattle.std.specs.Prelude.{ℕ, ◌+◌, min, Bool, true, false, not, ◌&&◌, List, replicate, Some, None, Option, slice_index_or}
+use Rattle.std.specs.Prelude.{ℕ, ◌+◌, min, Bool, true, false, not, ◌&&◌, List, replicate, None, Option, slice_index_or}
 use Rattle.frame.specs.Bounds.{M}
 use Rattle.frame.specs.Meanings.{Meaning, sequence_acknowledgement, close_sequence_response}
 use Rattle.frame.specs.Meanings.{terminate_sequence_response}

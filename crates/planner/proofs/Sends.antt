@@ -1,5 +1,5 @@
 -- The search for the lowest due letter, slot by slot.
-use Rattle.std.proofs.Common.{◌≡◌, ℕ, ◌+◌, ◌<◌, true, false, List, length, get_or, drop, set, Some, None, Option, sym, refl, ap, ◌∙◌}
+use Rattle.std.proofs.Common.{◌≡◌, ℕ, ◌+◌, ◌<◌, false, List, length, get_or, drop, set, Some, Option, sym, refl, ap, ◌∙◌}
 use Rattle.std.proofs.lemmas.List.{at_drop_more, get_or-map}
 use Rattle.frame.specs.Meanings.{Meaning, sequence}
 use Rattle.planner.specs.Sources.{Source, done, name, with_window}

@@ -1,10 +1,10 @@
 -- One turn of the loops over ranges and slots.
-use Rattle.std.proofs.Common.{◌≡◌, ℕ, suc, ◌+◌, ◌-◌, ◌<◌, ◌≤◌, Bool, cond, ◌&&◌, ◌||◌, ltb, leb, List, [], ◌∷◌, ◌++◌, length, get_or, take, drop, set, Some, sym, refl, ap, ◌∙◌, append_assoc, append-nil, add_assoc, arith}
-use Rattle.std.proofs.lemmas.List.{at_drop_more, take_all, drop_all, take_more_set, drop-set-lt, set_at, map-append, map-set, drop-map}
+use Rattle.std.proofs.Common.{◌≡◌, ℕ, suc, ◌+◌, ◌-◌, ◌<◌, ◌≤◌, cond, ◌&&◌, ◌||◌, ltb, leb, List, [], ◌∷◌, ◌++◌, length, get_or, take, drop, set, Some, sym, ap, ◌∙◌, append_assoc, append-nil, add_assoc, arith}
+use Rattle.std.proofs.lemmas.List.{at_drop_more, take_all, drop_all, take_more_set, drop-set-lt, set_at, map-append}
 use Rattle.frame.specs.declared.range.Range.{Range}
 use Rattle.frame.specs.Covers.{covers}
 use Rattle.planner.specs.Receipts.{first_above, marked, with_receipts, in_front, shifted, slid}
-use Rattle.planner.specs.Windows.{Slot, free, has_receipt, slot_of, window_of}
+use Rattle.planner.specs.Windows.{Slot, has_receipt, slot_of, window_of}
 use Rattle.planner.specs.declared.slot.Slot as code
 use Rattle.planner.specs.declared.slot.Slot.TheVariants as slot
 

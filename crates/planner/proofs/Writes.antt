@@ -1,6 +1,6 @@
 -- The number and the slot that a letter gets are those that the definition names.
 use Rattle.std.proofs.Common.{◌≡◌, ℕ, ◌+◌, ◌-◌, List, set, None, Ok, ap, ◌∙◌}
-use Rattle.planner.specs.Sources.{Source, Acted, done, with_window}
+use Rattle.planner.specs.Sources.{Source, done, with_window}
 use Rattle.planner.specs.Windows.{Slot, waiting}
 use Rattle.planner.specs.Writing.{next_number, adds_at, adds}
 

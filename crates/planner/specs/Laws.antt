@@ -1,6 +1,6 @@
 -- What holds of the planner's end whatever calls are made, refused or not:
 -- its states only move along the arrows, its credit never falls, and a receipt stays.
-use Rattle.std.specs.Prelude.{◌≡◌, ℕ, ◌+◌, ◌-◌, ◌<◌, ◌≤◌, Bool, true, false, ◌&&◌, ◌||◌, List, [], ◌∷◌, length, is_some, Some, None, Option, ◌==◌, nat_le, nat_lt, slice_index_or}
+use Rattle.std.specs.Prelude.{◌≡◌, ℕ, ◌+◌, ◌-◌, ◌<◌, ◌≤◌, Bool, true, false, ◌&&◌, ◌||◌, List, length, is_some, Some, None, Option, ◌==◌, nat_le, nat_lt, slice_index_or}
 use Rattle.frame.specs.Meanings.{Meaning}
 use Rattle.planner.specs.Hearing.{hears}
 use Rattle.planner.specs.Opening.{opens, asks, closes, finishes}

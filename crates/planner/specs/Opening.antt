@@ -1,5 +1,5 @@
 -- The calls that put one frame and answer that it is done: open, ask, close and finish.
-use Rattle.std.specs.Prelude.{◌&&◌, ◌||◌, ◌==◌, nat_le}
+use Rattle.std.specs.Prelude.{◌&&◌, ◌==◌, nat_le}
 use Rattle.frame.specs.Bounds.{number_of}
 use Rattle.frame.specs.Meanings.{Meaning, create_sequence, ack_requested, close_sequence, terminate_sequence}
 use Rattle.planner.specs.Sources.{Source, Acted, done, allowed, in_state, name}

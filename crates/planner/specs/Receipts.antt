@@ -1,5 +1,5 @@
 -- What the ranges of a receipt name, and what receipts make of the window.
-use Rattle.std.specs.Prelude.{ℕ, zero, suc, ◌+◌, max, Bool, false, cond, ◌&&◌, ◌||◌, List, [], ◌∷◌, ◌++◌, drop, Some, None, Option, nat_lt}
+use Rattle.std.specs.Prelude.{ℕ, zero, suc, ◌+◌, max, Bool, cond, List, [], ◌∷◌, ◌++◌, drop, Some, None, Option, nat_lt}
 use Rattle.frame.specs.Covers as ranges
 use Rattle.frame.specs.declared.range.Range.{Range}
 use Rattle.planner.specs.Sources.{Source}

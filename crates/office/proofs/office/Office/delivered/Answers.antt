@@ -1,4 +1,4 @@
-use Rattle.std.proofs.Common.{◌≡◌, sym, ap, ◌∙◌, arith}
+use Rattle.std.proofs.Common.{sym, ap, ◌∙◌, arith}
 use Rattle.office.specs.Deliveries.{number_of}
 use Rattle.office.specs.Seen.{seen}
 use Rattle.office.proofs.DeliveryLaws.{keeps_from, number_some}
@@ -12,10 +12,12 @@ invariant_of-self c =
     let is = c.number_of.ensures ∙ ap (number_of o.delivered) c.first.ensures in
     let next = number_some o.delivered c.in-Some.number _ (sym c.in-Some.is ∙ is) in
     let low = o.numbered 0 next.1 in
-    let numbered = numbered_shifted o.delivered o.places o.numbered in (
-      rw c.shift.ensures (length_shifted o.places o.eight),
-      (omega arith, (rw (c.shift.ensures, next.0) numbered, tt)),
-    )
+    let numbered = numbered_shifted o.delivered o.places o.numbered in
+    record {
+      eight = rw c.shift.ensures (length_shifted o.places o.eight);
+      counted = omega arith;
+      numbered = rw (c.shift.ensures, next.0) numbered;
+    }
 
 pub returns-in-None : goal.returns-in-None
 returns-in-None c =

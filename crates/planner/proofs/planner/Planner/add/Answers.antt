@@ -13,28 +13,20 @@ invariant_of-self c =
     let number = c.in_ok-number.number in
     let is = c.in_ok-number.ensures.bounds in
     let same = sym (map-set slot_of p.slots (number - p.lowest) _) in
-    let rest = free_set (window_of p.slots) (p.written + 1 - p.lowest) (number + 1 - p.lowest) (number - p.lowest) _ (omega arith) (omega arith) p.rest in (
-      simp length-set p.whole,
-      (
-        is.1,
-        (
-          p.bounded,
-          (
-            p.counted,
-            (
-              omega arith,
-              (
-                is.2,
-                (
-                  subst (FreeFrom (number + 1 - p.lowest)) same rest,
-                  (subst Lowest same (lowest_set (window_of p.slots) (number - p.lowest) _ refl p.first), (p.known, (p.nameless, (p.creditless, tt)))),
-                ),
-              ),
-            ),
-          ),
-        ),
-      ),
-    )
+    let rest = free_set (window_of p.slots) (p.written + 1 - p.lowest) (number + 1 - p.lowest) (number - p.lowest) _ (omega arith) (omega arith) p.rest in
+    record {
+      whole = simp length-set p.whole;
+      limited = is.1;
+      bounded = p.bounded;
+      counted = p.counted;
+      reached = omega arith;
+      near = is.2;
+      rest = subst (FreeFrom (number + 1 - p.lowest)) same rest;
+      first = subst Lowest same (lowest_set (window_of p.slots) (number - p.lowest) _ refl p.first);
+      known = p.known;
+      nameless = p.nameless;
+      creditless = p.creditless;
+    }
 
 pub returns : goal.returns
 returns c =

@@ -1,5 +1,5 @@
-use Rattle.std.proofs.Common.{◌≡◌, ◌+◌, ◌-◌, ◌<◌, ◌≤◌, sym, ap, ◌∙◌, subst, arith}
-use Rattle.planner.specs.Receipts.{in_front, slid}
+use Rattle.std.proofs.Common.{◌+◌, ◌-◌, ◌<◌, sym, subst, arith}
+use Rattle.planner.specs.Receipts.{slid}
 use Rattle.planner.specs.States.{rank}
 use Rattle.planner.specs.Windows.{window_of, FreeFrom, Lowest}
 use Rattle.planner.proofs.Windows.{length_received, free_marks, free_slid, front_le, lowest_slid}
@@ -16,26 +16,18 @@ invariant_of-self c =
     let few = front_le w written rest in
     let created : rank c.args.next < 2 → ⊥ = λ low. omega (arith, c.requires.created) in
     let past : Lowest (slid by w) = subst (λ k. Lowest (slid k w)) (sym c.front_of-by.ensures.value) (lowest_slid w) in
-    let whole = length_received _ p.lowest by p.slots c.mark_all.new.slots c.slide.new.slots c.mark_all.ensures c.slide.ensures p.whole in (
-      whole,
-      (
-        p.limited,
-        (
-          p.bounded,
-          (
-            omega arith,
-            (
-              omega (arith, c.front_of-by.ensures.value),
-              (
-                omega arith,
-                (
-                  subst (FreeFrom (p.written + 1 - (p.lowest + by))) slides
-                      (free_slid by w written (p.written + 1 - (p.lowest + by)) (omega arith) rest),
-                  (subst Lowest slides past, (c.requires.known, (λ low. absurd (created low), (λ low. absurd (created low), tt)))),
-                ),
-              ),
-            ),
-          ),
-        ),
-      ),
-    )
+    let whole = length_received _ p.lowest by p.slots c.mark_all.new.slots c.slide.new.slots c.mark_all.ensures c.slide.ensures p.whole in
+    record {
+      whole = whole;
+      limited = p.limited;
+      bounded = p.bounded;
+      counted = omega arith;
+      reached = omega (arith, c.front_of-by.ensures.value);
+      near = omega arith;
+      rest = subst (FreeFrom (p.written + 1 - (p.lowest + by))) slides
+          (free_slid by w written (p.written + 1 - (p.lowest + by)) (omega arith) rest);
+      first = subst Lowest slides past;
+      known = c.requires.known;
+      nameless = λ low. absurd (created low);
+      creditless = λ low. absurd (created low);
+    }

@@ -15,28 +15,20 @@ invariant_of-self-2 c =
     let same = sym (map-set slot_of p.slots place _) in
     let few = p.written + 1 - p.lowest in
     let front = in_front (window_of p.slots) few place stands.1 p.rest in
-    let rest = free_set (window_of p.slots) few few place _ front (omega arith) p.rest in (
-      simp length-set p.whole,
-      (
-        p.limited,
-        (
-          p.bounded,
-          (
-            p.counted,
-            (
-              p.reached,
-              (
-                p.near,
-                (
-                  subst (FreeFrom few) same rest,
-                  (subst Lowest same (lowest_set (window_of p.slots) place _ (ap has_receipt c.once_sent.ensures) p.first), (p.known, (p.nameless, (p.creditless, tt)))),
-                ),
-              ),
-            ),
-          ),
-        ),
-      ),
-    )
+    let rest = free_set (window_of p.slots) few few place _ front (omega arith) p.rest in
+    record {
+      whole = simp length-set p.whole;
+      limited = p.limited;
+      bounded = p.bounded;
+      counted = p.counted;
+      reached = p.reached;
+      near = p.near;
+      rest = subst (FreeFrom few) same rest;
+      first = subst Lowest same (lowest_set (window_of p.slots) place _ (ap has_receipt c.once_sent.ensures) p.first);
+      known = p.known;
+      nameless = p.nameless;
+      creditless = p.creditless;
+    }
 
 pub returns : goal.returns
 returns c =
