@@ -1,5 +1,5 @@
 -- What a call that is made again and again comes to, by its answers.
-use Rattle.std.specs.Prelude.{ℕ, ◌+◌, Bool, true, false, cond, Some, None, Option}
+use Rattle.std.specs.Prelude.{◌+◌, Bool, true, false, cond, Some, None, Option}
 use Rattle.answer.specs.declared.answer.Answer.{Answer}
 use Rattle.answer.specs.declared.answer.Answer.TheVariants as answer
 use Rattle.answer.specs.declared.refusal.LineRefusal.{LineRefusal}
