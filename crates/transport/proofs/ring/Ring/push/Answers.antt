@@ -1,5 +1,5 @@
 use Rattle.std.proofs.Common.{refl, arith}
-use Rattle.transport.specs.Holds.{length_held, held_push}
+use Rattle.transport.proofs.Holds.{length_held, held_push}
 use Rattle.transport.proofs.ring.Ring.push.Goals as goal
 
 pub invariant_of-self : goal.invariant_of-self
