@@ -1,5 +1,5 @@
 -- A bag is a transport of depth 0.
-use Rattle.std.proofs.Common.{◌≡◌, ℕ, ◌-◌, ◌<◌, Bool, true, false, cond, ltb, [], ◌∷◌, ◌++◌, length, take, drop, refl, subst, arith}
+use Rattle.std.proofs.Common.{ℕ, ◌-◌, ◌<◌, Bool, true, false, cond, ltb, [], ◌∷◌, length, take, drop, refl, subst, arith}
 use Rattle.std.specs.List.{ContainsAt as Has}
 use Rattle.std.proofs.ByRecursion.{has_get_or, has_append_left, has_append_right}
 use Rattle.std.proofs.lemmas.List.{take-append-drop}

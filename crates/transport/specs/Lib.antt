@@ -4,5 +4,4 @@ pub mod Calls
 pub mod Stored
 pub mod Mailbox
 pub mod Bag
-pub mod Holds
-pub mod Rings
+pub mod HeldSized

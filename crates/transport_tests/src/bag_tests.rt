@@ -1,5 +1,6 @@
 use crate::steps::*;
 use std::process::Abort;
+use std::test::Fail;
 use transport::Bag;
 
 // Of n frames the 8 newest wait, and each comes out twice, the newest first.

@@ -1,4 +1,5 @@
 use crate::steps::*;
+use std::test::Fail;
 use transport::Mailbox;
 
 // Of 33 frames the 31st and the 32nd are kept, and the 33rd is lost; what is no frame is refused even then.

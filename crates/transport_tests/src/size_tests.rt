@@ -1,5 +1,6 @@
 use crate::steps::*;
 use std::process::Abort;
+use std::test::Fail;
 use transport::{Bag, Mailbox, Transport, TransportRefusal};
 
 // Puts of 0, 1, 800 and 801 bytes.

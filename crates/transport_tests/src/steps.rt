@@ -1,6 +1,5 @@
 // Steps that the tests share, each at any transport.
 use std::process::Abort;
-use std::test::Fail;
 use transport::{Transport, TransportRefusal};
 
 pub fn puts<T: Transport>(rt: &impl Abort, t: &mut T, frame: &[u8]) {

@@ -1,7 +1,7 @@
 ghost use Rattle.std.specs.Prelude.{◌≡◌, false, [], IfOk};
 ghost use Rattle.transport.specs.Bag.{in_bag, takes_next, newest, bag_put, bag_get, bag_takes};
 ghost use Rattle.transport.specs.Calls.{put_answer, get_answer, get_memory};
-ghost use Rattle.transport.specs.Holds.{held_sized};
+ghost use Rattle.transport.specs.HeldSized.{held_sized};
 
 use super::Bag;
 use crate::refusal::TransportRefusal;

@@ -1,7 +1,7 @@
 ghost use Rattle.std.specs.Prelude.{◌≡◌, [], IfOk};
 ghost use Rattle.transport.specs.Calls.{put_answer, get_answer, get_memory};
 ghost use Rattle.transport.specs.Mailbox.{in_mailbox, oldest, mailbox_put, mailbox_get};
-ghost use Rattle.transport.specs.Holds.{held_sized};
+ghost use Rattle.transport.specs.HeldSized.{held_sized};
 
 use super::Mailbox;
 use crate::refusal::TransportRefusal;

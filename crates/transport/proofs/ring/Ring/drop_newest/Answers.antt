@@ -1,5 +1,5 @@
 use Rattle.std.proofs.Common.{refl}
-use Rattle.transport.specs.Holds.{held_short}
+use Rattle.transport.proofs.Holds.{held_short}
 use Rattle.transport.proofs.ring.Ring.drop_newest.Goals as goal
 
 pub returns-then-self-gt0 : goal.returns-then-self-gt0

@@ -1,7 +1,7 @@
 use Rattle.std.proofs.Common.{length, refl, ap, ◌∙◌}
 use Rattle.std.proofs.lemmas.List.{length-drop}
 use Rattle.transport.specs.Stored.{held}
-use Rattle.transport.specs.Holds.{held_next}
+use Rattle.transport.proofs.Holds.{held_next}
 use Rattle.transport.proofs.ring.Ring.drop_oldest.Goals as goal
 
 pub returns-then-self-gt0 : goal.returns-then-self-gt0

@@ -1,5 +1,5 @@
 use Rattle.std.proofs.Common.{sym}
-use Rattle.transport.specs.Holds.{length_held}
+use Rattle.transport.proofs.Holds.{length_held}
 use Rattle.transport.proofs.ring.Ring.len.Goals as goal
 
 pub returns : goal.returns

@@ -1,5 +1,5 @@
 use Rattle.std.proofs.Common.{rules}
-use Rattle.transport.specs.Holds.{held_nth, held_past}
+use Rattle.transport.proofs.Holds.{held_nth, held_past}
 use Rattle.transport.proofs.ring.Ring.load.Goals as goal
 
 pub returns-then-i-self : goal.returns-then-i-self

@@ -1,11 +1,11 @@
 use Rattle.std.proofs.Common.{refl, arith}
-use Rattle.transport.specs.Holds.{length_held, held_push}
+use Rattle.transport.proofs.Holds.{length_held, held_push}
 use Rattle.transport.proofs.ring.Ring.push.Goals as goal
 
 pub invariant_of-self : goal.invariant_of-self
 invariant_of-self c =
     let q = c.args.self.now in
-    (q.within, (omega (arith, length_held q), tt))
+    record { within = q.within; few = omega (arith, length_held q) }
 
 pub returns : goal.returns
 returns c =

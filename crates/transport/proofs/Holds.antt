@@ -1,15 +1,14 @@
 -- What a ring holds, and what each of its moves does to that.
 use Rattle.std.specs.Prelude.{◌≡◌, ℕ, ◌+◌, ◌-◌, ◌<◌, ◌≤◌, List, [], ◌∷◌, ◌++◌, map, length, get_or, take, drop, Some, None, vec_items, slice_index_or, slice_set}
 use Rattle.std.proofs.Common.{sym, ap, ◌∙◌, arith}
-use Rattle.std.specs.List.{ContainsAt as Has, AllByRecursion as All, slice_get}
-use Rattle.std.proofs.ByRecursion.{all-has, All-map}
-use Rattle.std.proofs.lemmas.List.{length-map, length-take-le, take-take, take-map, drop-map, map_push, get_or-map}
+use Rattle.std.specs.List.{slice_get}
+use Rattle.std.proofs.lemmas.List.{length-map, take-take, take-map, drop-map, map_push, get_or-map}
 use Rattle.std.proofs.lemmas.Option.{slice_get-get_or, slice_get_past}
 use Rattle.transport.specs.declared.slot.Slot.{Slot}
 use Rattle.transport.specs.declared.ring.Ring.{Ring}
-use Rattle.transport.specs.Meaning.{Bytes, Sized}
+use Rattle.transport.specs.Meaning.{Bytes}
 use Rattle.transport.specs.Stored.{content, in_turn, round, held, room}
-use Rattle.transport.specs.Rings.{length_in_turn, getD_in_turn, in_turn_push, in_turn_next}
+use Rattle.transport.proofs.Rings.{length_in_turn, getD_in_turn, in_turn_push, in_turn_next}
 
 -- all slots, and those in use, oldest first
 abbrev all : Ring → List Slot
@@ -74,17 +73,3 @@ held_nth q i at s h a r =
 
 pub held_past : (q : Ring) (i : ℕ) → q.count ≤ i → slice_get (held q) i ≡ None
 held_past q i h = slice_get_past (held q) i (omega (arith, length_held q))
-
--- whatever a slot holds is a frame
-slot_sized : (s : Slot) → Sized (content s)
-slot_sized s =
-    let l = length-take-le s.len s.bytes (omega arith) in
-    record { some = omega arith; few = omega arith }
-
-slots_sized : (ss : List Slot) → All (λ s. Sized (content s)) ss
-slots_sized [] = tt
-slots_sized (s ∷ ss) = (slot_sized s, slots_sized ss)
-
-pub held_sized : (q : Ring) (frame : Bytes) → Has (held q) frame → Sized frame
-held_sized q frame h =
-    all-has Sized (held q) frame (All-map Sized content (used q) (slots_sized (used q))) h
