@@ -1,6 +1,6 @@
 -- The journal: its page is, for each letter that it took, the letter's length and then its bytes.
 use Rattle.std.specs.Prelude.{◌≡◌, ℕ, ◌+◌, ◌≤◌, true, false, cond, ◌&&◌, List, [], ◌∷◌, ◌++◌, length, Some, None, vec_items, Option, nat_le, nat_lt, slice_index}
-use Rattle.std.specs.List.{AllByRecursion as All}
+use Rattle.std.specs.List.{AllByRecursion}
 use Rattle.std.proofs.Common.{ap}
 use Rattle.std.proofs.lemmas.Bool.{cond-false}
 use Rattle.letter.specs.Letters.{is_letter}
@@ -38,10 +38,10 @@ pub record ShowsEntries : Type 0 where
   pub only : (ls : List (List ℕ)) (page : Page) → all_taken journal_step (Some []) ls ≡ Some page → page ≡ entries ls
   pub takes :
       (ls : List (List ℕ)) →
-      All (λ l. is_letter l ≡ true) ls →
+      AllByRecursion (λ l. is_letter l ≡ true) ls →
       length (entries ls) ≤ 4096 →
       all_taken journal_step (Some []) ls ≡ Some (entries ls)
   pub fits :
       (ls : List (List ℕ)) (page : Page) →
       all_taken journal_step (Some []) ls ≡ Some page →
-      All (λ l. is_letter l ≡ true) ls × (length (entries ls) ≤ 4096)
+      AllByRecursion (λ l. is_letter l ≡ true) ls × (length (entries ls) ≤ 4096)
