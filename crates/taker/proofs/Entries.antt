@@ -1,6 +1,6 @@
 -- A new journal shows the entries of the letters that it took, over any run.
 use Rattle.std.proofs.Common.{◌≡◌, ℕ, ◌+◌, ◌≤◌, Bool, true, false, cond, ◌&&◌, leb, List, [], ◌∷◌, ◌++◌, length, Some, None, sym, refl, ap, ◌∙◌, append_assoc, append-nil, arith, length-append}
-use Rattle.std.specs.List.{AllByRecursion as All}
+use Rattle.std.specs.List.{AllByRecursion}
 use Rattle.std.proofs.lemmas.Bool.{and_parts, and_from, leb-true, le-leb, cond-true}
 use Rattle.letter.specs.Letters.{is_letter}
 use Rattle.taker.specs.Steps.{Page, all_taken}
@@ -9,7 +9,7 @@ use Rattle.taker.specs.Journals.{entry, entries, journal_step, ShowsEntries}
 -- a run from this page that took all the letters
 record Run (page : Page) (ls : List (List ℕ)) (after : Page) : Type 0 where
   shown : after ≡ page ++ entries ls
-  letters : All (λ l. is_letter l ≡ true) ls
+  letters : AllByRecursion (λ l. is_letter l ≡ true) ls
   few : length after ≤ 4096
 
 no_letters : (page after : Page) → length page ≤ 4096 → Some page ≡ Some after → Run page [] after
@@ -61,7 +61,7 @@ step_takes page l is few = cond-true _ _ _ (and_from _ _ is (le-leb _ _ few))
 
 takes :
     (ls : List (List ℕ)) (page : Page) →
-    All (λ l. is_letter l ≡ true) ls →
+    AllByRecursion (λ l. is_letter l ≡ true) ls →
     length page + length (entries ls) ≤ 4096 →
     all_taken journal_step (Some page) ls ≡ Some (page ++ entries ls)
 takes [] page all few = ap Some (sym (append-nil page))

@@ -1,5 +1,5 @@
 -- A new book holds for each pair the last word of the letters that it took, over any run.
-use Rattle.std.proofs.Common.{◌≡◌, ℕ, Bool, true, false, cond, ◌&&◌, eqb, List, [], ◌∷◌, Some, None, Option, sym, refl, ap, ◌∙◌, subst, arith}
+use Rattle.std.proofs.Common.{◌≡◌, ℕ, Bool, true, false, cond, ◌&&◌, eqb, List, [], ◌∷◌, Some, None, Option, sym, refl, ap, ◌∙◌, arith}
 use Rattle.std.proofs.lemmas.Bool.{and_parts, and_from, eqb-true, eq-eqb, true≢false}
 use Rattle.letter.specs.Changes.{decoded}
 use Rattle.letter.specs.Letters.{is_letter}
@@ -7,7 +7,7 @@ use Rattle.letter.specs.declared.change.Change.{Change}
 use Rattle.letter.specs.declared.change.Change.TheVariants.{Put, Withdrawal}
 use Rattle.letter.specs.declared.change.Path.{Path}
 use Rattle.taker.specs.BookLaws.{held_on, said, last_word, HoldsLastWord}
-use Rattle.taker.specs.Books.{page_of, paths_of, one_more, stepped, book_step}
+use Rattle.taker.specs.Books.{page_of, one_more, stepped, book_step}
 use Rattle.taker.specs.Paths.{same, look, put, without, ascending, has_place}
 use Rattle.taker.specs.Steps.{Page, all_taken}
 use Rattle.taker.proofs.Lookups.{put_holds, put_others, without_gone, without_others}

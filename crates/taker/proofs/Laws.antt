@@ -1,14 +1,14 @@
 -- The laws of the book, from its step: which path is held for which pair after each letter.
-use Rattle.std.proofs.Common.{◌≡◌, ℕ, ◌≤◌, Bool, true, false, cond, ltb, List, length, Some, None, Ok, Err, Option, Result, sym, refl, ap, ◌∙◌, subst, arith}
+use Rattle.std.proofs.Common.{◌≡◌, ℕ, ◌≤◌, Bool, true, false, cond, List, length, Some, None, Option, Result, sym, refl, ap, ◌∙◌, arith}
 use Rattle.std.proofs.lemmas.Bool.{or_parts, ltb-false, true≢false}
 use Rattle.letter.specs.Changes.{decoded}
 use Rattle.letter.specs.Letters.{is_letter}
 use Rattle.letter.specs.declared.change.Change.{Change}
 use Rattle.letter.specs.declared.change.Change.TheVariants.{Put, Withdrawal}
 use Rattle.letter.specs.declared.change.Path.{Path}
-use Rattle.taker.specs.BookLaws.{held_on, PutDone, WithdrawalDone, SpoiltCounted, Done, NoPlace, TurnedAway, Taken, Ordered}
-use Rattle.taker.specs.Books.{page_of, paths_of, one_more, stepped, book_step}
-use Rattle.taker.specs.Paths.{look, holds, put, without, ascending, has_place}
+use Rattle.taker.specs.BookLaws.{held_on, PutDone, WithdrawalDone, SpoiltCounted, Done, NoPlace, Taken, Ordered}
+use Rattle.taker.specs.Books.{page_of, one_more, stepped, book_step}
+use Rattle.taker.specs.Paths.{look, put, without, ascending, has_place}
 use Rattle.taker.specs.Steps.{Page, Takes, answer, page_after}
 use Rattle.taker.specs.declared.refusal.TakerRefusal.{TakerRefusal}
 use Rattle.taker.proofs.Lookups.{none_held, put_holds, put_others, without_gone, without_others}

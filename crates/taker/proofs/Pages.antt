@@ -1,13 +1,13 @@
 -- The page of a book shows its count and its paths, and the book's step at its page.
-use Rattle.std.proofs.Common.{◌≡◌, ℕ, ◌<◌, ◌≤◌, Bool, true, false, cond, List, [], ◌∷◌, length, get_or, is_ok, Some, None, Ok, Err, Option, Result, sym, refl, ap, ◌∙◌}
-use Rattle.std.specs.List.{flat_map, slice_get}
+use Rattle.std.proofs.Common.{◌≡◌, ℕ, Bool, true, false, cond, List, [], ◌∷◌, length, is_ok, Some, None, Ok, Err, Option, Result, sym, refl, ap, ◌∙◌}
+use Rattle.std.specs.List.{slice_get}
 use Rattle.std.proofs.lemmas.Option.{slice_get_read, slice_get_past}
 use Rattle.std.proofs.lemmas.Bool.{both_ways}
 use Rattle.letter.specs.declared.change.Change.{Change}
 use Rattle.letter.specs.declared.change.Path.{Path}
 use Rattle.taker.specs.declared.refusal.TakerRefusal.{TakerRefusal}
 use Rattle.taker.specs.declared.refusal.TakerRefusal.TheVariants.{NoPage}
-use Rattle.taker.specs.Books.{four_numbers, page_of, paths_by_fours, paths_of, stepped, change_step}
+use Rattle.taker.specs.Books.{page_of, paths_of, stepped, change_step}
 use Rattle.taker.specs.Paths.{PathAt}
 use Rattle.taker.specs.Steps.{Page, answer, page_after}
 

@@ -1,6 +1,7 @@
 -- The book: its page is the count of spoilt letters and then the paths that it holds, each as its four numbers.
-use Rattle.std.specs.Prelude.{ℕ, ◌+◌, min, cond, List, [], ◌∷◌, Some, None, vec_items, Option}
+use Rattle.std.specs.Prelude.{◌≡◌, ℕ, ◌+◌, min, false, cond, List, [], ◌∷◌, Some, None, vec_items, Option}
 use Rattle.std.specs.List.{flat_map}
+use Rattle.std.proofs.lemmas.Bool.{cond-false}
 use Rattle.letter.specs.Changes.{decoded}
 use Rattle.letter.specs.Letters.{is_letter}
 use Rattle.letter.specs.declared.change.Change.{Change}
@@ -51,6 +52,10 @@ change_step page change = stepped (count_of page) (paths_of page) change
 
 abbrev pub book_step : Page → List ℕ → Option Page
 book_step page letter = cond (is_letter letter) (change_step page (decoded letter)) None
+
+-- it gives no page for what is no letter
+pub sized_of_book : (before bytes : List ℕ) → is_letter bytes ≡ false → book_step before bytes ≡ None
+sized_of_book before bytes e = cond-false _ _ _ e
 
 abbrev pub book_page : Book → Page
 book_page b = page_of b.spoilt (vec_items b.paths)

@@ -15,7 +15,7 @@ fn withdrawals_in_range(rt: HostRuntime) -> Result<(), Fail> {
     assert!(rt; withdrawal(1, 1).is_ok());
     assert!(rt; withdrawal(999_999, 9_999).is_ok());
     let made = withdrawal(5, 10)?;
-    assert_eq!(rt; made.as_slice(), &[2, 0, 0, 0, 5, 0, 10]);
+    assert_eq!(rt; made.as_slice(), [2, 0, 0, 0, 5, 0, 10].as_slice());
     Ok(())
 }
 

@@ -1,9 +1,8 @@
 ghost use Rattle.std.specs.Prelude.{◌≡◌, ◌≤◌, [], ◌∷◌, IfOk, Some, None};
 ghost use Rattle.letter.specs.declared.change.Change.TheVariants.{Put, Withdrawal};
 ghost use Rattle.taker.specs.BookLaws.{HoldsLastWord, Ordered, Taken};
-ghost use Rattle.taker.specs.Books.{book_page, book_step, change_step, one_more};
+ghost use Rattle.taker.specs.Books.{book_page, book_step, change_step, one_more, sized_of_book};
 ghost use Rattle.taker.specs.Steps.{Follows, Takes};
-ghost use Rattle.std.proofs.Common.{rules, arith};
 
 use super::paths::{put_path, remove_path};
 use super::{Book, MOST};
@@ -27,7 +26,7 @@ impl Taker for Book {
 
     ghost step = { book_step };
 
-    ghost sized = { first_of (Prim.search rules, Prim.grind (arith, Self.row.coded.inj)) };
+    ghost sized = { sized_of_book };
 
     fn take(&mut self, letter: &[u8]) -> Result<(), TakerRefusal>
         ensures step { Takes book_step

@@ -1,6 +1,5 @@
 ghost use Rattle.std.specs.Prelude.{◌≡◌, ◌+◌, ◌≤◌, [], ◌++◌, length, IfOk, vec_len};
-ghost use Rattle.taker.specs.Journals.{entry, journal_page, journal_step, number_at, ShowsEntries};
-ghost use Rattle.std.proofs.Common.{rules, arith};
+ghost use Rattle.taker.specs.Journals.{entry, journal_page, journal_step, number_at, ShowsEntries, sized_of_journal};
 
 use super::{Journal, MOST};
 use crate::refusal::TakerRefusal;
@@ -44,7 +43,7 @@ impl Taker for Journal {
 
     ghost step = { journal_step };
 
-    ghost sized = { first_of (Prim.search rules, Prim.grind (arith, Self.row.coded.inj)) };
+    ghost sized = { sized_of_journal };
 
     fn take(&mut self, letter: &[u8]) -> Result<(), TakerRefusal> {
         if !is_letter(letter) || letter.len() + 1 > MOST - self.numbers.len() {

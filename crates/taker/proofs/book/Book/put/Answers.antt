@@ -9,10 +9,13 @@ use Rattle.taker.proofs.book.Book.put.Goals as goal
 
 pub invariant_of-self : goal.invariant_of-self
 invariant_of-self c =
-    let kept = ascending_put_paths c.args.p (vec_items c.args.self.now.paths) c.args.self.now.ordered in (
-      c.put_path.ensures.few_after,
-      (c.put_path.ensures.room_after, (ap ascending c.put_path.ensures.items ∙ kept, (c.args.self.now.counted, tt))),
-    )
+    let kept = ascending_put_paths c.args.p (vec_items c.args.self.now.paths) c.args.self.now.ordered in
+    record {
+      few = c.put_path.ensures.few_after;
+      room = c.put_path.ensures.room_after;
+      ordered = ap ascending c.put_path.ensures.items ∙ kept;
+      counted = c.args.self.now.counted;
+    }
 
 pub returns : goal.returns
 returns c =

@@ -9,13 +9,13 @@ use Rattle.taker.proofs.book.Book.withdraw.Goals as goal
 pub invariant_of-self : goal.invariant_of-self
 invariant_of-self c =
     let kept =
-    ascending_without c.args.train c.args.section (vec_items c.args.self.now.paths) c.args.self.now.ordered in (
-      omega (arith, c.remove_path.ensures.len, c.args.self.now.few),
-      (
-        omega (arith, c.remove_path.ensures.capacity, c.args.self.now.room),
-        (ap ascending c.remove_path.ensures.items ∙ kept, (c.args.self.now.counted, tt)),
-      ),
-    )
+    ascending_without c.args.train c.args.section (vec_items c.args.self.now.paths) c.args.self.now.ordered in
+    record {
+      few = omega (arith, c.remove_path.ensures.len, c.args.self.now.few);
+      room = omega (arith, c.remove_path.ensures.capacity, c.args.self.now.room);
+      ordered = ap ascending c.remove_path.ensures.items ∙ kept;
+      counted = c.args.self.now.counted;
+    }
 
 pub returns : goal.returns
 returns c =

@@ -1,4 +1,4 @@
-use Rattle.std.proofs.Common.{◌≡◌, ◌<◌, ◌≤◌, true, length, is_ok, vec_items, vec_len, vec_capacity, ap, ◌∙◌, arith}
+use Rattle.std.proofs.Common.{◌≡◌, ◌<◌, ◌≤◌, true, length, is_ok, vec_items, vec_len, vec_capacity, ◌∙◌, arith}
 use Rattle.std.proofs.ResultArms.{chosen}
 use Rattle.taker.proofs.Edits.{has_held, has_free, has_none, set_held, insert_free, full_free}
 use Rattle.taker.proofs.book.paths.put_path.Goals as goal

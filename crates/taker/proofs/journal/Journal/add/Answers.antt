@@ -1,4 +1,4 @@
-use Rattle.std.proofs.Common.{◌≡◌, ℕ, ◌+◌, ◌≤◌, true, List, [], ◌∷◌, ◌++◌, length, is_ok, vec_items, vec_len, vec_capacity, ap, ◌∙◌, append_assoc, arith}
+use Rattle.std.proofs.Common.{ℕ, ◌+◌, ◌≤◌, List, [], ◌∷◌, ◌++◌, length, vec_items, vec_len, vec_capacity, ap, ◌∙◌, append_assoc, arith}
 use Rattle.std.proofs.ResultArms.{chosen}
 use Rattle.taker.proofs.journal.Journal.add.Goals as goal
 
