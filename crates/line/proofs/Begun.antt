@@ -1,11 +1,7 @@
 -- A line over empty transports is fresh.
-use Rattle.std.proofs.Common.{◌≡◌, ℕ, Bool, [], ap, ◌∙◌}
+use Rattle.std.proofs.Common.{◌≡◌, [], ap, ◌∙◌}
 use Rattle.line.specs.Starting.{starts}
-use Rattle.office.specs.Destinations as office
-use Rattle.office.specs.Destinations.{Destination}
-use Rattle.planner.specs.Settings.{Chosen, values}
-use Rattle.planner.specs.Sources.{Source}
-use Rattle.planner.specs.Starting as planner
+use Rattle.planner.specs.Settings.{values}
 use Rattle.planner.specs.declared.settings.Settings.{Settings}
 use Rattle.protocol.specs.Lines.{Line, Fresh, Valid}
 use Rattle.taker.specs.Steps.{Page}

@@ -1,7 +1,6 @@
 -- The texts of frames are frames for every transport, and what a line gets fits its memory.
-use Rattle.std.proofs.Common.{◌≡◌, ℕ, ◌-◌, ◌≤◌, List, [], ◌∷◌, ◌++◌, length, take, drop, Some, None, Ok, Option, sym, refl, ap, ◌∙◌, subst, arith}
+use Rattle.std.proofs.Common.{◌≡◌, ℕ, ◌-◌, ◌≤◌, length, take, drop, sym, ap, ◌∙◌, arith}
 use native.Mathlib.Nat.{sub-zero}
-use Rattle.std.specs.List.{ContainsAt as Has}
 use Rattle.std.proofs.lemmas.List.{take_at}
 use Rattle.frame.specs.Meanings.{
   Meaning,
@@ -19,9 +18,7 @@ use Rattle.frame.specs.Meanings.{
 use Rattle.frame_writer.specs.Putting.{Writes}
 use Rattle.grammar.specs.Texts.{text, receipt_text}
 use Rattle.pieces.specs.Tags.{tag_text}
-use Rattle.transport.specs.Meaning.{Bytes, Frames, Sized, Added, Got}
-use Rattle.transport.proofs.Outcomes.{took_bytes}
-use Rattle.line.specs.Carrying.{Gets}
+use Rattle.transport.specs.Meaning.{Bytes, Sized}
 
 -- a text begins with a tag
 text_some : (m : Meaning) → 1 ≤ length (text m)

@@ -1,9 +1,9 @@
 -- A letter that the taker took counts as delivered.
-use Rattle.std.proofs.Common.{◌≡◌, ℕ, ◌+◌, List, Some, None, Ok, Err, Option, Result, sym, refl, ap, ◌∙◌, subst, arith}
+use Rattle.std.proofs.Common.{◌≡◌, ℕ, ◌+◌, List, Some, None, Ok, Err, Option, Result, sym, refl, ap, ◌∙◌, arith}
 use Rattle.line.specs.Answers.{number_if}
 use Rattle.office.specs.Deliveries.{Delivery, delivery, delivers, next_letter}
 use Rattle.office.specs.Destinations.{Destination}
-use Rattle.protocol.specs.Steps.{Handover, handover, taken_by, hands_first, hands}
+use Rattle.protocol.specs.Steps.{handover, taken_by, hands_first, hands}
 use Rattle.taker.specs.Steps.{Page, Step, Follows}
 use Rattle.taker.specs.declared.refusal.TakerRefusal.{TakerRefusal}
 use Rattle.taker.specs.declared.refusal.TakerRefusal.TheVariants.{NoPage}

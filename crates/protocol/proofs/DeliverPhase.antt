@@ -1,11 +1,11 @@
 -- Deliver, until nothing comes: as far as letters are accepted.
-use Rattle.std.proofs.Common.{◌≡◌, ℕ, zero, suc, ◌+◌, ◌-◌, ◌<◌, ◌≤◌, Bool, true, false, ◌&&◌, ◌||◌, ltb, leb, ◌⊎◌, List, [], ◌∷◌, length, get_or, drop, is_some, Some, None, Option, sym, refl, ap, ◌∙◌, subst, inl, inr, add-one, arith}
+use Rattle.std.proofs.Common.{◌≡◌, ℕ, zero, suc, ◌+◌, ◌≤◌, true, false, ◌&&◌, ltb, leb, ◌⊎◌, List, [], ◌∷◌, get_or, drop, is_some, Some, None, Option, sym, refl, ap, ◌∙◌, subst, inl, inr, add-one, arith}
 use Rattle.std.proofs.lemmas.Bool.{false≢true, cases_lt, and_parts, or_cases, leb-true}
 use Rattle.answer.specs.Phases.{stops}
 use Rattle.answer.specs.declared.answer.Answer.{Answer}
 use Rattle.answer.specs.declared.turn.Phase.{Phase}
 use Rattle.office.specs.Accepted.{is_accepted}
-use Rattle.office.specs.Deliveries.{delivers, next_letter}
+use Rattle.office.specs.Deliveries.{next_letter}
 use Rattle.office.specs.Destinations.{Destination}
 use Rattle.office.specs.Places.{has_place, place_of}
 use Rattle.planner.specs.Settings.{Chosen}
@@ -19,7 +19,7 @@ use Rattle.protocol.specs.Turns.{Until, enough, last, again, Flows}
 use Rattle.protocol.proofs.Delivering.{after_is, next_is, delivers_ok}
 use Rattle.protocol.proofs.Invariant.{Accepted}
 use Rattle.protocol.proofs.Letters.{nowhere}
-use Rattle.protocol.proofs.Living.{Live, live_delivers, not_both}
+use Rattle.protocol.proofs.Living.{Live, live_delivers}
 
 drop_letter : (ls : List Letter) (d : ℕ) (l : Letter) → letter_at ls (suc d) ≡ Some l → drop d ls ≡ l ∷ drop (suc d) ls
 drop_letter [] d l h = nowhere l h

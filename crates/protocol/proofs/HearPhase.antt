@@ -1,8 +1,7 @@
 -- Hear, until nothing comes: every receipt that waits is taken in.
-use Rattle.std.proofs.Common.{◌≡◌, ℕ, zero, suc, ◌+◌, ◌<◌, ◌≤◌, max, Bool, true, false, cond, eqb, ◌⊎◌, List, [], ◌∷◌, ◌++◌, length, get_or, Some, None, Ok, Option, sym, refl, ap, ◌∙◌, subst, inl, inr, arith}
+use Rattle.std.proofs.Common.{◌≡◌, ℕ, suc, ◌+◌, ◌≤◌, Bool, true, false, cond, eqb, ◌⊎◌, List, [], ◌∷◌, length, get_or, Ok, Option, sym, refl, ap, ◌∙◌, subst, inl, inr, arith}
 use Rattle.std.proofs.lemmas.List.{nil_from_length}
 use Rattle.std.proofs.lemmas.Bool.{false≢true, ne_eqb, cond-false}
-use Rattle.answer.specs.Phases.{stops}
 use Rattle.answer.specs.declared.answer.Answer.{Answer}
 use Rattle.answer.specs.declared.turn.Phase.{Phase}
 use Rattle.frame.specs.Ascending.{ascending}
@@ -29,9 +28,9 @@ use Rattle.frame.specs.declared.form.Form.TheVariants as form
 use Rattle.frame.specs.declared.range.Range.{Range}
 use Rattle.grammar.specs.Grammar.{reading}
 use Rattle.office.specs.Destinations.{Destination}
-use Rattle.planner.specs.Hearing.{created, once_closed, takes, is_held, hears, hears_read}
+use Rattle.planner.specs.Hearing.{once_closed, takes, is_held, hears, hears_read}
 use Rattle.frame.specs.Covers.{covers}
-use Rattle.planner.specs.Receipts.{first_above, marked, with_receipts, in_front, slid, receives}
+use Rattle.planner.specs.Receipts.{marked, with_receipts, in_front, slid, receives}
 use Rattle.planner.specs.Settings.{Chosen}
 use Rattle.planner.specs.Sources as sources
 use Rattle.planner.specs.Sources.{Source, in_state}

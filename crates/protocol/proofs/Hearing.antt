@@ -1,6 +1,6 @@
 -- What the planner's end hears keeps the invariant.
-use Rattle.std.proofs.Common.{◌≡◌, ℕ, zero, suc, ◌+◌, ◌-◌, ◌<◌, ◌≤◌, max, Bool, true, false, cond, ◌&&◌, ◌||◌, eqb, ltb, leb, ◌⊎◌, List, [], ◌∷◌, length, get_or, is_some, Some, None, Ok, Err, Option, Result, sym, refl, ap, ◌∙◌, subst, inl, inr, arith}
-use Rattle.std.proofs.lemmas.Bool.{true≢false, false≢true, and_parts, and_from, or_cases, or_left, or_right, leb-true, leb-false, eqb-true, eq-eqb, le-leb, le-ltb, cases_lt, cond_both, cases_Bool}
+use Rattle.std.proofs.Common.{◌≡◌, ℕ, zero, suc, ◌+◌, ◌-◌, ◌<◌, ◌≤◌, Bool, true, false, cond, ◌&&◌, eqb, ltb, leb, List, [], ◌∷◌, length, get_or, is_some, Some, None, Ok, Option, sym, refl, ap, ◌∙◌, subst, inl, inr, arith}
+use Rattle.std.proofs.lemmas.Bool.{false≢true, and_parts, and_from, or_cases, or_left, or_right, leb-true, eqb-true, eq-eqb, le-leb, le-ltb, cases_lt, cond_both}
 use Rattle.frame.specs.Ascending.{starts_at, ascending}
 use Rattle.frame.specs.Bounds.{M}
 use Rattle.frame.specs.Meanings.{
@@ -27,20 +27,7 @@ use Rattle.frame.specs.declared.range.Range.{Range}
 use Rattle.office.specs.Accepted.{is_accepted}
 use Rattle.office.specs.Destinations.{Destination}
 use Rattle.office.specs.Places.{has_place, place_of}
-use Rattle.planner.specs.Hearing.{
-  created,
-  if_creating,
-  once_closed,
-  once_ended,
-  once_shut,
-  once_lost,
-  takes_if,
-  takes,
-  heeds,
-  is_held,
-  if_held,
-  hears,
-}
+use Rattle.planner.specs.Hearing.{created, once_closed, once_ended, once_shut, once_lost, takes_if, takes, is_held, hears}
 use Rattle.frame.specs.Covers.{covers}
 use Rattle.planner.specs.Receipts.{first_above, marked, with_receipts, in_front, slid, receives}
 use Rattle.planner.specs.Settings.{Chosen}
@@ -48,13 +35,12 @@ use Rattle.planner.specs.Sources as sources
 use Rattle.planner.specs.Sources.{Source, Acted, in_state}
 use Rattle.planner.specs.States.{rank}
 use Rattle.planner.specs.Windows.{Slot, free, waiting, receipted, has_receipt}
-use Rattle.planner.specs.declared.refusal.PlannerRefusal.{PlannerRefusal}
 use Rattle.planner.specs.declared.refusal.PlannerRefusal.TheVariants as refusal
 use Rattle.planner.specs.declared.state.PlannerState.{PlannerState}
 use Rattle.planner.specs.declared.state.PlannerState.TheVariants as state
 use Rattle.planner.proofs.Windows.{length_marks, length_slid, slid_at}
 use Rattle.protocol.specs.Lines.{Valid}
-use Rattle.protocol.specs.Tallies.{Letter, letter_at}
+use Rattle.protocol.specs.Tallies.{Letter}
 use Rattle.protocol.proofs.Invariant.{
   Holds,
   Core,

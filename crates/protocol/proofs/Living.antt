@@ -1,11 +1,10 @@
 -- Lines whose planner's end is Created, and what single calls make of them.
-use Rattle.std.proofs.Common.{◌≡◌, ℕ, ◌+◌, ◌<◌, ◌≤◌, Bool, true, false, eqb, ◌⊎◌, List, Some, None, Ok, Option, sym, refl, ap, ◌∙◌, subst, inl, inr, arith}
+use Rattle.std.proofs.Common.{◌≡◌, ℕ, ◌≤◌, true, false, ◌⊎◌, List, Some, None, Option, sym, refl, ap, ◌∙◌, inl, inr, arith}
 use Rattle.std.proofs.lemmas.Bool.{false≢true, cases_lt, eq-eqb}
 use Rattle.answer.specs.Phases.{stops}
 use Rattle.answer.specs.declared.answer.Answer.{Answer}
-use Rattle.frame.specs.Meanings.{Meaning, ack_requested}
+use Rattle.frame.specs.Meanings.{ack_requested}
 use Rattle.grammar.specs.Grammar.{reading}
-use Rattle.office.specs.Reads.{reads_seen}
 use Rattle.office.specs.declared.state.OfficeState.{OfficeState}
 use Rattle.office.specs.declared.state.OfficeState.TheVariants as office-state
 use Rattle.planner.specs.Hearing.{hears_read}
@@ -15,24 +14,10 @@ use Rattle.planner.specs.Settings.{Chosen}
 use Rattle.planner.specs.Sources as sources
 use Rattle.planner.specs.Sources.{Source, name}
 use Rattle.planner.specs.States.{rank}
-use Rattle.planner.specs.declared.state.PlannerState.{PlannerState}
-use Rattle.planner.specs.declared.state.PlannerState.TheVariants as state
 use Rattle.transport.specs.Meaning.{Bytes}
 use Rattle.protocol.specs.Calls as call
 use Rattle.protocol.specs.Lines.{Over, Line, Valid}
-use Rattle.protocol.specs.Steps.{
-  Doing,
-  Acts,
-  Hears,
-  HearsNothing,
-  Reads,
-  ReadsNothing,
-  Delivers,
-  Made,
-  Step,
-  heard,
-  was_read,
-}
+use Rattle.protocol.specs.Steps.{Doing, Acts, Hears, HearsNothing, Reads, ReadsNothing, Delivers, Step, heard, was_read}
 use Rattle.protocol.specs.Tallies.{Letter}
 use Rattle.protocol.proofs.Delivering.{delivers_ok}
 use Rattle.protocol.proofs.Invariant.{Core, Inv, OutOK, Grows, height, out_grows, back_grows}

@@ -1,22 +1,11 @@
 -- The calls of the planner's end that get nothing keep the invariant.
-use Rattle.std.proofs.Common.{◌≡◌, ℕ, zero, suc, ◌+◌, ◌-◌, ◌/◌, ◌%◌, ◌<◌, ◌≤◌, Bool, true, false, cond, ◌&&◌, eqb, ltb, leb, ◌≢◌, ◌⊎◌, List, [], ◌∷◌, ◌++◌, length, get_or, set, Some, None, Ok, Err, Option, Result, unwrap_or, sym, refl, ap, ◌∙◌, subst, inl, inr, arith}
-use Rattle.std.proofs.lemmas.List.{get_or-set_same, get_or-set_other, get_or_past, length-set, length_push, length-append}
-use Rattle.std.proofs.lemmas.Bool.{and_parts, leb-true, eqb-true, eqb-false, ltb-false, cases_eq, cases_lt}
+use Rattle.std.proofs.Common.{◌≡◌, ℕ, suc, ◌+◌, ◌-◌, ◌/◌, ◌%◌, ◌<◌, ◌≤◌, Bool, true, false, cond, ◌&&◌, eqb, ltb, leb, ◌≢◌, List, [], ◌∷◌, ◌++◌, length, get_or, set, Some, None, Ok, Err, Option, unwrap_or, sym, refl, ap, ◌∙◌, subst, inl, inr, arith}
+use Rattle.std.proofs.lemmas.List.{get_or-set_same, get_or-set_other, length-set, length_push}
+use Rattle.std.proofs.lemmas.Bool.{and_parts, leb-true, eqb-true, eqb-false, ltb-false, cases_eq}
 use Rattle.answer.specs.Refusals.{refused_by}
 use Rattle.answer.specs.declared.answer.Answer.TheVariants as answer
 use Rattle.frame.specs.Bounds.{M, IsIdentifier, number_of}
-use Rattle.frame.specs.Meanings.{
-  Meaning,
-  create_sequence,
-  ack_requested,
-  close_sequence,
-  terminate_sequence,
-  sequence,
-  IsLast,
-  IsLetter,
-  AllBytes,
-  Proper,
-}
+use Rattle.frame.specs.Meanings.{Meaning, create_sequence, ack_requested, close_sequence, terminate_sequence, IsLast, IsLetter, AllBytes, Proper}
 use Rattle.letter.specs.Changes.{encoded, two_bytes, four_bytes}
 use Rattle.letter.specs.Letters.{is_letter}
 use Rattle.letter.specs.declared.change.Change.TheVariants.{Put}
@@ -24,24 +13,23 @@ use Rattle.letter.specs.declared.change.Path.{Path}
 use Rattle.office.specs.Destinations.{Destination}
 use Rattle.planner.specs.Opening.{opens, asks, closes, finishes}
 use Rattle.planner.specs.Refusals as planner
-use Rattle.planner.specs.Sending.{Due, due_letter, or_later, first_due, lowest_due, rested, sends_due, sends}
 use Rattle.planner.specs.Settings.{Chosen}
 use Rattle.planner.specs.Sources as sources
 use Rattle.planner.specs.Sources.{Source, Acted, allowed, in_state, with_window, name}
 use Rattle.planner.specs.States.{rank}
 use Rattle.planner.specs.Windows.{Slot, free, waiting, receipted}
-use Rattle.planner.specs.Writing.{with_letter, next_number, adds_at, adds, writes, posts}
+use Rattle.planner.specs.Writing.{with_letter, adds_at, adds, writes, posts}
 use Rattle.planner.specs.declared.refusal.PlannerRefusal.{PlannerRefusal}
 use Rattle.planner.specs.declared.refusal.PlannerRefusal.TheVariants as refusal
 use Rattle.planner.specs.declared.state.PlannerState.{PlannerState}
 use Rattle.planner.specs.declared.state.PlannerState.TheVariants as state
 use Rattle.taker.specs.Steps.{Page, Step}
-use Rattle.protocol.specs.Calls.{Call, opening, asking, closing, finishing, writing, posting, sending}
+use Rattle.protocol.specs.Calls.{Call, opening, asking, closing, finishing, writing, posting}
 use Rattle.protocol.specs.Lines.{Valid}
 use Rattle.protocol.specs.Steps.{Doing, doing, refuses, done, numbered, sent}
 use Rattle.protocol.specs.Tallies.{Letter, letter_at, effect, numbering, adds as added, counted, tally}
 use Rattle.protocol.proofs.Invariant.{Holds, Core, OutOK, Grows, height, grows_same, grows_state}
-use Rattle.protocol.proofs.Letters.{nowhere, at_grows, at_last, at_within, at_split}
+use Rattle.protocol.proofs.Letters.{at_grows, at_last, at_split}
 use Rattle.protocol.proofs.Waiting.{PutOK}
 
 -- what a call of the planner's end does for the invariant

@@ -1,8 +1,7 @@
 -- Read, until nothing comes: every letter that waits outward is accepted and acknowledged.
-use Rattle.std.proofs.Common.{◌≡◌, ℕ, zero, suc, ◌+◌, ◌-◌, ◌<◌, ◌≤◌, Bool, true, false, not, ◌&&◌, ◌||◌, eqb, ltb, leb, ◌⊎◌, List, [], ◌∷◌, ◌++◌, length, get_or, is_some, Some, None, Ok, Option, sym, refl, ap, ◌∙◌, subst, inl, inr, arith}
+use Rattle.std.proofs.Common.{◌≡◌, ℕ, suc, ◌+◌, ◌<◌, ◌≤◌, Bool, true, false, not, ◌&&◌, ltb, leb, ◌⊎◌, List, [], ◌∷◌, ◌++◌, length, get_or, is_some, Some, None, Ok, Option, sym, refl, ap, ◌∙◌, subst, inl, inr, arith}
 use Rattle.std.proofs.lemmas.List.{get_or-set_same, nil_from_length}
 use Rattle.std.proofs.lemmas.Bool.{false≢true, cases_lt, and_from, or_left, or_right, le-leb, lt-ltb, eq-eqb}
-use Rattle.answer.specs.Phases.{stops}
 use Rattle.answer.specs.declared.answer.Answer.{Answer}
 use Rattle.answer.specs.declared.turn.Phase.{Phase}
 use Rattle.frame.specs.Bounds.{M}
@@ -13,7 +12,7 @@ use Rattle.grammar.specs.Texts.{text}
 use Rattle.office.specs.Accepted.{is_accepted}
 use Rattle.office.specs.Destinations.{Destination, accepts, acknowledgement, is_created, ranges_of, credit_of}
 use Rattle.office.specs.Places.{has_place, place_of, kept, is_free}
-use Rattle.office.specs.Reads.{reads, reads_seen, reply_of}
+use Rattle.office.specs.Reads.{reads, reply_of}
 use Rattle.office.specs.declared.state.OfficeState.TheVariants as state
 use Rattle.frame.specs.Covers.{covers}
 use Rattle.planner.specs.Settings.{Chosen}
@@ -25,22 +24,10 @@ use Rattle.protocol.specs.Lines.{Over, Line, Valid}
 use Rattle.protocol.specs.Steps.{Reads, ReadsNothing}
 use Rattle.protocol.specs.Tallies.{Letter}
 use Rattle.protocol.specs.Turns.{Until, enough, last, again}
-use Rattle.protocol.proofs.Fifo.{
-  Waits,
-  waits_more,
-  waits_last,
-  waits_pop,
-  has_none,
-  none_new,
-  OneMore,
-  puts_one,
-  puts_this,
-  kept_waits,
-  one_more_size,
-}
-use Rattle.protocol.proofs.Invariant.{Core, Accepted, OutOK, Sound}
+use Rattle.protocol.proofs.Fifo.{Waits, waits_last, waits_pop, has_none, none_new, OneMore, puts_one, puts_this, kept_waits, one_more_size}
+use Rattle.protocol.proofs.Invariant.{Core, Accepted, OutOK}
 use Rattle.protocol.proofs.Living.{Live, live_reads, live_reads_nothing, read_cases, reads_on, office_created}
-use Rattle.protocol.proofs.Reading.{exactly, receipt_proper, accepts_core, accepts_same}
+use Rattle.protocol.proofs.Reading.{exactly, receipt_proper, accepts_core}
 use Rattle.protocol.proofs.SendPhase.{InOut}
 use Rattle.protocol.proofs.Texts.{read_as, reads_bytes}
 

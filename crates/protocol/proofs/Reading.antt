@@ -1,69 +1,18 @@
 -- What the office's end reads keeps the invariant.
-use Rattle.std.proofs.Common.{◌≡◌, ℕ, zero, suc, ◌+◌, ◌-◌, ◌<◌, ◌≤◌, Bool, true, false, cond, ◌&&◌, ◌||◌, eqb, ltb, leb, ◌≢◌, ◌⊎◌, List, [], ◌∷◌, length, get_or, set, is_some, Some, None, Ok, Err, Option, Result, sym, refl, ap, ◌∙◌, subst, inl, inr, arith}
+use Rattle.std.proofs.Common.{◌≡◌, ℕ, ◌+◌, ◌<◌, ◌≤◌, Bool, true, false, cond, ◌&&◌, eqb, ltb, leb, List, length, get_or, set, Some, None, Ok, sym, refl, ap, ◌∙◌, inl, inr, arith}
 use Rattle.std.proofs.lemmas.List.{get_or-set_same, get_or-set_other, length-set}
-use Rattle.std.proofs.lemmas.Bool.{false≢true, and_parts, and_cases, leb-false, ltb-true, leb-true, eq-eqb, cases_eq, le-leb, and_from}
+use Rattle.std.proofs.lemmas.Bool.{false≢true, and_parts, and_cases, leb-false, ltb-true, leb-true, eq-eqb, cases_eq}
 use Rattle.frame.specs.Bounds.{M, IsIdentifier, number_of}
-use Rattle.frame.specs.Meanings.{
-  Meaning,
-  create_sequence,
-  create_sequence_response,
-  sequence,
-  ack_requested,
-  sequence_acknowledgement,
-  close_sequence,
-  close_sequence_response,
-  terminate_sequence,
-  terminate_sequence_response,
-  sequence_fault,
-  unknown_sequence,
-  sequence_terminated,
-  sequence_closed,
-  create_sequence_refused,
-  IsReceipt,
-  Proper,
-}
-use Rattle.frame.specs.declared.range.Range.{Range}
-use Rattle.office.specs.Accepted.{is_accepted, Exact}
-use Rattle.office.specs.Destinations.{
-  Destination,
-  with_state,
-  with_places,
-  is_new,
-  accepts,
-  ranges_of,
-  credit_of,
-  acknowledgement,
-  close_response,
-  terminate_response,
-}
+use Rattle.frame.specs.Meanings.{Meaning, create_sequence, create_sequence_response, sequence, ack_requested, sequence_acknowledgement, close_sequence, close_sequence_response, terminate_sequence, terminate_sequence_response, sequence_fault, sequence_terminated, sequence_closed, create_sequence_refused, IsReceipt, Proper}
+use Rattle.office.specs.Accepted.{Exact}
+use Rattle.office.specs.Destinations.{Destination, with_state, is_new, accepts, ranges_of, credit_of, acknowledgement, close_response, terminate_response}
 use Rattle.office.specs.Places.{has_place, place_of, kept, is_free}
-use Rattle.office.specs.Reads.{
-  Step,
-  Answer,
-  Reading,
-  step,
-  replies,
-  on_admits,
-  on_create,
-  on_letter,
-  on_ask,
-  on_close,
-  on_terminate,
-  last_of,
-  known,
-  unless_same,
-  stranger,
-  heeds,
-  takes,
-  reads,
-  reply_of,
-}
+use Rattle.office.specs.Reads.{Step, Answer, Reading, replies, on_admits, on_create, on_letter, on_ask, on_close, on_terminate, last_of, known, unless_same, heeds, takes, reads, reply_of}
 use Rattle.office.specs.declared.state.OfficeState.{OfficeState}
 use Rattle.office.specs.declared.state.OfficeState.TheVariants as state
 use Rattle.office.proofs.ReadLaws.{keeps_accepts, keeps_state}
 use Rattle.office.proofs.Receipts as office-proofs
 use Rattle.office.proofs.Receipts.{exact}
-use Rattle.frame.specs.Covers.{covers}
 use Rattle.planner.specs.Settings.{Chosen}
 use Rattle.planner.specs.Sources.{Source}
 use Rattle.planner.specs.States.{rank}

@@ -1,13 +1,12 @@
 -- Every run from a fresh line is safe.
-use Rattle.std.proofs.Common.{◌≡◌, ℕ, zero, suc, ◌+◌, ◌-◌, ◌<◌, ◌≤◌, true, false, ◌&&◌, ◌||◌, ltb, leb, ◌⊎◌, List, [], ◌∷◌, length, get_or, replicate, Some, None, Ok, Option, sym, refl, ap, ◌∙◌, subst, inl, inr, arith}
+use Rattle.std.proofs.Common.{◌≡◌, ℕ, ◌+◌, ◌-◌, ◌<◌, ◌≤◌, true, ◌&&◌, ltb, leb, List, [], ◌∷◌, length, get_or, replicate, Some, None, Ok, Option, sym, refl, ap, ◌∙◌, subst, inl, inr, arith}
 use Rattle.std.specs.List.{ContainsAt as Has}
-use Rattle.std.proofs.lemmas.List.{get_or-replicate, get_or_past, length-replicate}
+use Rattle.std.proofs.lemmas.List.{get_or-replicate, get_or_past}
 use Rattle.std.proofs.lemmas.Bool.{and_parts, or_cases, ltb-true, leb-true, cases_lt}
 use Rattle.answer.specs.Refusals.{refused_by}
 use Rattle.answer.specs.declared.answer.Answer.{Answer}
-use Rattle.frame.specs.Meanings.{Meaning, sequence}
+use Rattle.frame.specs.Meanings.{sequence}
 use Rattle.grammar.specs.Grammar as grammar
-use Rattle.office.specs.Accepted.{is_accepted}
 use Rattle.office.specs.Destinations.{Destination}
 use Rattle.office.specs.Wholes.{Whole, is_over}
 use Rattle.office.specs.declared.state.OfficeState.{OfficeState}
@@ -16,32 +15,20 @@ use Rattle.planner.specs.Laws as laws
 use Rattle.planner.specs.Settings.{Chosen}
 use Rattle.planner.specs.Sources.{Source}
 use Rattle.planner.specs.States.{rank}
-use Rattle.planner.specs.Windows.{Slot, free, has_receipt}
+use Rattle.planner.specs.Windows.{free, has_receipt}
 use Rattle.planner.specs.declared.state.PlannerState.TheVariants as planner-state
 use Rattle.taker.specs.Steps.{Page}
 use Rattle.transport.specs.Meaning.{Bytes, Frames, EachFrame}
 use Rattle.protocol.specs.Calls as call
 use Rattle.protocol.specs.Calls.{Call, Given, Event, event}
 use Rattle.protocol.specs.Lines.{Over, Line, Fresh, Valid}
-use Rattle.protocol.specs.Promises.{NeverAstray, Placed, Delivered, Honest, Safe, RunsAreSafe}
+use Rattle.protocol.specs.Promises.{NeverAstray, Placed, Safe, RunsAreSafe}
 use Rattle.protocol.specs.Runs.{Run, start, more}
 use Rattle.protocol.specs.Steps.{Doing, Acts, Hears, HearsNothing, Reads, ReadsNothing, Delivers, Step, heard, was_read}
-use Rattle.protocol.specs.Tallies.{Letter, letter_at, effect, tally, tallied, tallied_d}
+use Rattle.protocol.specs.Tallies.{Letter, tally, tallied, tallied_d}
 use Rattle.protocol.proofs.Delivering.{delivers_ok}
 use Rattle.protocol.proofs.Hearing.{has_accepted}
-use Rattle.protocol.proofs.Invariant.{
-  Holds,
-  Core,
-  OutOK,
-  BackOK,
-  Accepted,
-  Sound,
-  Inv,
-  Grows,
-  height,
-  out_grows,
-  back_grows,
-}
+use Rattle.protocol.proofs.Invariant.{Holds, Core, OutOK, Accepted, Inv, height, out_grows, back_grows}
 use Rattle.protocol.proofs.Letters.{nowhere}
 use Rattle.protocol.proofs.Planning.{
   Keeps,

@@ -5,10 +5,8 @@ use Rattle.std.proofs.lemmas.Bool.{false≢true, and_cases, and_right, lt-leb, l
 use Rattle.answer.specs.Phases.{stops}
 use Rattle.answer.specs.declared.answer.Answer.{Answer}
 use Rattle.answer.specs.declared.turn.Phase.{Phase}
-use Rattle.answer.specs.declared.answer.Answer.TheVariants as answer
 use Rattle.frame.specs.Meanings.{Meaning, sequence, ack_requested, Proper}
 use Rattle.grammar.specs.Texts.{text}
-use Rattle.office.specs.Destinations.{Destination}
 use Rattle.planner.specs.Sending.{Due, due_letter, or_later, first_due, lowest_due, rested, sends_due, sends}
 use Rattle.planner.specs.Settings.{Chosen}
 use Rattle.planner.specs.Sources as sources
@@ -18,7 +16,7 @@ use Rattle.planner.specs.Windows.{Slot, free, waiting, receipted}
 use Rattle.transport.specs.Meaning.{Bytes, Frames}
 use Rattle.protocol.specs.Calls.{sending, asking}
 use Rattle.protocol.specs.Lines.{Over, Line, Valid}
-use Rattle.protocol.specs.Steps.{Doing, doing, Acts, Made, done, sent}
+use Rattle.protocol.specs.Steps.{Acts, Made, done, sent}
 use Rattle.protocol.specs.Tallies.{Letter}
 use Rattle.protocol.specs.Turns.{Until, enough, last, again}
 use Rattle.protocol.proofs.Fifo.{Waits, waits_more, waits_last}
@@ -26,7 +24,7 @@ use Rattle.protocol.proofs.Invariant.{Core, grows_same, grows_state}
 use Rattle.protocol.proofs.Letters.{nowhere}
 use Rattle.protocol.proofs.Living.{Live, live_acts, asks_is, sends_is}
 use Rattle.protocol.proofs.Planning.{name_is, name_proper}
-use Rattle.protocol.proofs.Sending.{IsDue, due_found, after_sending, marked, sends_core, sends_put}
+use Rattle.protocol.proofs.Sending.{due_found, after_sending, marked, sends_core, sends_put}
 
 -- something of each number of the window and what stands for it
 abbrev pub Each : (ℕ → Slot → Type 0) → ℕ → List Slot → Type 0

@@ -1,5 +1,5 @@
 -- A send keeps the invariant: what it puts is a letter as it was written, at most the credit.
-use Rattle.std.proofs.Common.{◌≡◌, ℕ, zero, suc, ◌+◌, ◌-◌, ◌<◌, ◌≤◌, Bool, true, false, cond, ◌&&◌, eqb, leb, ◌≢◌, ◌⊎◌, List, [], ◌∷◌, length, get_or, set, Some, None, Option, sym, refl, ap, ◌∙◌, subst, inl, inr, arith}
+use Rattle.std.proofs.Common.{◌≡◌, ℕ, suc, ◌+◌, ◌-◌, ◌<◌, ◌≤◌, Bool, true, false, cond, ◌&&◌, leb, ◌≢◌, List, [], ◌∷◌, length, get_or, set, Some, None, Option, sym, refl, ap, ◌∙◌, subst, inl, inr, arith}
 use Rattle.std.proofs.lemmas.List.{get_or-set_same, get_or-set_other, get_or_past, length-set}
 use Rattle.std.proofs.lemmas.Bool.{and_parts, leb-true, eqb-true, cases_eq, cases_lt}
 use Rattle.frame.specs.Bounds.{M}
@@ -14,7 +14,7 @@ use Rattle.protocol.specs.Calls.{sending}
 use Rattle.protocol.specs.Lines.{Valid}
 use Rattle.protocol.specs.Steps.{sent}
 use Rattle.protocol.specs.Tallies.{Letter, letter_at}
-use Rattle.protocol.proofs.Invariant.{Holds, Core, OutOK, Grows, grows_same, grows_state}
+use Rattle.protocol.proofs.Invariant.{Holds, Core, OutOK, grows_same, grows_state}
 use Rattle.protocol.proofs.Letters.{nowhere, at_within}
 use Rattle.protocol.proofs.Planning.{Keeps, gated, refused_keeps, name_is, name_proper}
 use Rattle.protocol.proofs.Waiting.{PutOK}

@@ -1,5 +1,5 @@
 -- Where the clock is past every sending of a run, it is past every one that the window tells of.
-use Rattle.std.proofs.Common.{◌≡◌, ℕ, zero, suc, ◌+◌, ◌≤◌, Bool, true, false, cond, eqb, List, [], ◌∷◌, get_or, set, replicate, Some, None, Ok, Err, Option, Result, sym, refl, ap, ◌∙◌, subst, arith}
+use Rattle.std.proofs.Common.{ℕ, zero, suc, ◌+◌, Bool, true, false, cond, eqb, List, [], ◌∷◌, get_or, set, Some, None, Ok, Err, Option, Result, sym, ◌∙◌, subst}
 use Rattle.answer.specs.declared.answer.Answer.{Answer}
 use Rattle.frame.specs.Meanings.{
   Meaning,
@@ -24,11 +24,11 @@ use Rattle.grammar.specs.Grammar as grammar
 use Rattle.letter.specs.Changes.{encoded}
 use Rattle.letter.specs.Letters.{is_letter}
 use Rattle.letter.specs.declared.change.Change.TheVariants.{Put}
-use Rattle.planner.specs.Hearing.{about, created, heeds, if_held, is_held, takes_if, hears, hears_read}
+use Rattle.planner.specs.Hearing.{about, created, heeds, if_held, is_held, takes_if, hears_read}
 use Rattle.planner.specs.Opening.{opens, asks, closes, finishes}
 use Rattle.frame.specs.Covers.{covers}
-use Rattle.planner.specs.Receipts.{first_above, marked, with_receipts, in_front, slid, receives}
-use Rattle.planner.specs.Sending.{Due, lowest_due, sends_due, sends}
+use Rattle.planner.specs.Receipts.{first_above, marked, with_receipts, in_front, receives}
+use Rattle.planner.specs.Sending.{Due, lowest_due, sends_due}
 use Rattle.planner.specs.Sources as sources
 use Rattle.planner.specs.Sources.{Source, Acted, allowed, in_state}
 use Rattle.planner.specs.States.{rank}

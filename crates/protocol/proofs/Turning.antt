@@ -1,6 +1,6 @@
 -- Two turns bring every letter across: the first brings the receipts and raises the credit to the last number
 -- written, the second sends what is left.
-use Rattle.std.proofs.Common.{◌≡◌, ℕ, zero, suc, ◌+◌, ◌-◌, ◌<◌, ◌≤◌, Bool, true, false, ◌&&◌, ltb, leb, ◌⊎◌, List, [], ◌∷◌, length, get_or, drop, Some, None, Option, sym, refl, ap, ◌∙◌, subst, inl, inr, arith}
+use Rattle.std.proofs.Common.{◌≡◌, ℕ, zero, suc, ◌+◌, ◌-◌, ◌≤◌, true, ◌&&◌, ltb, leb, List, [], length, get_or, Some, None, Option, sym, refl, ap, ◌∙◌, subst, inl, inr, arith}
 use Rattle.std.proofs.lemmas.Bool.{cases_lt, and_from, or_left, or_right, le-leb, lt-ltb}
 use Rattle.answer.specs.declared.turn.TurnReport.{TurnReport}
 use Rattle.frame.specs.Bounds.{M}
@@ -14,29 +14,16 @@ use Rattle.planner.specs.Sources.{Source}
 use Rattle.planner.specs.States.{rank}
 use Rattle.planner.specs.Windows.{Slot, free, waiting, receipted, has_receipt}
 use Rattle.transport.specs.Meaning.{Frames}
-use Rattle.protocol.specs.Calls.{Event}
 use Rattle.protocol.specs.Lines.{Over, Line, Valid}
-use Rattle.protocol.specs.Tallies.{Letter, written}
-use Rattle.protocol.specs.Turns.{most, Turn, turn, Flows, Past, Settled, TwoTurnsSettle}
+use Rattle.protocol.specs.Tallies.{Letter}
+use Rattle.protocol.specs.Turns.{most, Turn, turn, Past, Settled, TwoTurnsSettle}
 use Rattle.protocol.proofs.DeliverPhase.{Delivering, Onward, deliver_phase, delivered_all}
 use Rattle.protocol.proofs.HearPhase.{Hearing, hear_phase, heard_all, after_each, not_covered, not_credited}
-use Rattle.protocol.proofs.Invariant.{Holds, Core, Inv, BackOK, Accepted}
+use Rattle.protocol.proofs.Invariant.{Holds, BackOK, Accepted}
 use Rattle.protocol.proofs.Living.{Live}
 use Rattle.protocol.proofs.ReadPhase.{Covered, Reading, read_phase, read_all, all_covered, asked_credits}
 use Rattle.protocol.proofs.Safety.{stood}
-use Rattle.protocol.proofs.SendPhase.{
-  Each,
-  InOut,
-  Before,
-  After,
-  Sending,
-  left,
-  few_left,
-  send_phase,
-  sent_all,
-  Asked,
-  ask_phase,
-}
+use Rattle.protocol.proofs.SendPhase.{Each, InOut, Before, After, Sending, few_left, send_phase, sent_all, Asked, ask_phase}
 use Rattle.protocol.proofs.Sendings.{SlotPast, AllPast, run_past}
 use Rattle.protocol.proofs.TallyLaws.{tally_means}
 use Rattle.protocol.proofs.Texts.{read_as, read_text}

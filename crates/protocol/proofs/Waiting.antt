@@ -1,5 +1,5 @@
 -- What waits stays sound over put and get.
-use Rattle.std.proofs.Common.{◌≡◌, ℕ, ◌⊎◌, Some, None, Option, subst, inl, inr}
+use Rattle.std.proofs.Common.{ℕ, Some, None, Option, subst, inl, inr}
 use Rattle.std.specs.List.{ContainsAt as Has}
 use Rattle.frame.specs.Meanings.{Meaning, Proper}
 use Rattle.transport.specs.Meaning.{Bytes, Frames, EachFrame}

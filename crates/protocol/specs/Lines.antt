@@ -1,6 +1,6 @@
 -- A line in numbers and lists: its two ends, the frames that wait each way, and the taker's page.
 -- A reader has to believe that this is all of a line that its calls can touch.
-use Rattle.std.specs.Prelude.{◌≡◌, ℕ, ◌≤◌, List, []}
+use Rattle.std.specs.Prelude.{◌≡◌, ℕ, ◌≤◌, []}
 use Rattle.frame.specs.Bounds.{IsIdentifier, IsNumber}
 use Rattle.office.specs.Destinations as office
 use Rattle.office.specs.Destinations.{Destination}

@@ -9,7 +9,7 @@ use Rattle.frame.specs.declared.form.Form.{Form}
 use Rattle.line.specs.Meaning.{over, model, Makes}
 use Rattle.line.specs.declared.line.Line as code
 use Rattle.protocol.specs.Calls.{Call, Event, event}
-use Rattle.protocol.specs.Lines.{Over, Line, Fresh}
+use Rattle.protocol.specs.Lines.{Over, Line}
 use Rattle.protocol.specs.Runs.{Run, start, more}
 use Rattle.protocol.specs.Steps.{Made}
 use Rattle.protocol.specs.Turns.{Until, enough, last, again, most}

@@ -1,16 +1,13 @@
 -- Runs one after another are a run, and a call after a safe run leaves a safe one.
-use Rattle.std.proofs.Common.{◌≡◌, ℕ, List, [], ◌∷◌, ◌++◌, Option, sym, refl, ap, ◌∙◌, subst}
+use Rattle.std.proofs.Common.{ℕ, List, [], ◌∷◌, ◌++◌}
 use Rattle.answer.specs.declared.answer.Answer.{Answer}
 use Rattle.answer.specs.declared.turn.Phase.{Phase}
 use Rattle.answer.specs.declared.turn.TurnReport.{TurnReport}
 use Rattle.protocol.specs.Calls.{Call, Event, event}
-use Rattle.protocol.specs.Lines.{Over, Line, Fresh}
-use Rattle.protocol.specs.Promises.{Safe}
+use Rattle.protocol.specs.Lines.{Over, Line}
 use Rattle.protocol.specs.Runs.{Run, start, more}
 use Rattle.protocol.specs.Steps.{Made}
 use Rattle.protocol.specs.Turns.{Until, enough, last, again, Turn, turn}
-use Rattle.protocol.proofs.Safety.{runs_are_safe}
-use Rattle.std.proofs.lemmas.List.{append_assoc}
 
 pub joins :
     (w : Over) (first K M : Line) (es fs : List Event) → Run w first es K → Run w K fs M →

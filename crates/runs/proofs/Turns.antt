@@ -1,12 +1,10 @@
 -- A turn of the code is a turn, and keeps a safe run safe.
-use Rattle.std.proofs.Common.{◌≡◌, ℕ, List, ◌++◌, sym, subst}
-use Rattle.answer.specs.Phases.{once}
+use Rattle.std.proofs.Common.{ℕ, List, ◌++◌, sym, subst}
 use Rattle.answer.specs.declared.turn.Phase.{Phase}
 use Rattle.answer.specs.declared.turn.TurnReport.{TurnReport}
 use Rattle.line.specs.Meaning.{over, model}
 use Rattle.line.specs.declared.line.Line as code
 use Rattle.protocol.specs.Calls.{Event, delivering, sending, asking, reading, hearing}
-use Rattle.protocol.specs.Lines.{Line, Fresh}
 use Rattle.protocol.specs.Runs.{Run}
 use Rattle.protocol.specs.Turns.{Until, most, Turn, turn}
 use Rattle.protocol.proofs.Safety.{runs_are_safe}

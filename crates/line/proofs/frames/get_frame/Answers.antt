@@ -1,4 +1,4 @@
-use Rattle.std.proofs.Common.{◌≡◌, Ok, sym, ap, ◌∙◌, subst, rules}
+use Rattle.std.proofs.Common.{Ok, sym, ap, ◌∙◌, subst, rules}
 use Rattle.protocol.specs.Steps.{Handed}
 use Rattle.transport.specs.Meaning.{Bytes}
 use Rattle.transport.proofs.Outcomes.{got_took, took_bytes}

@@ -1,5 +1,4 @@
-use Rattle.std.proofs.Common.{◌≡◌, sym, subst}
-use Rattle.frame.specs.Meanings.{meaning}
+use Rattle.std.proofs.Common.{sym, subst}
 use Rattle.transport.specs.Meaning.{Bytes, Sized, Added}
 use Rattle.transport.proofs.Outcomes.{put_added, put_refused}
 use Rattle.line.proofs.Carried.{written_text, text_sized}

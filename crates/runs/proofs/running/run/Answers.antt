@@ -1,4 +1,4 @@
-use Rattle.std.proofs.Common.{◌≡◌, true, false, List, [], ◌++◌, map, reverse, vec_items, sym, refl, ap, ◌∙◌, arith}
+use Rattle.std.proofs.Common.{true, false, List, [], ◌++◌, map, reverse, vec_items, sym, refl, ap, ◌∙◌, arith}
 use Rattle.std.proofs.lemmas.List.{append-nil, take_all}
 use Rattle.std.proofs.lemmas.Result.{err_from_is_err_and}
 use Rattle.answer.specs.declared.answer.Answer.{Answer}

@@ -1,7 +1,5 @@
-use Rattle.std.proofs.Common.{◌≡◌, refl, ap, arith}
+use Rattle.std.proofs.Common.{refl, arith}
 use Rattle.answer.specs.declared.answer.Answer.TheVariants as answer
-use Rattle.line.specs.Meaning.{over, model}
-use Rattle.runs.specs.Calls.{call_of}
 use Rattle.runs.proofs.Going.{yet, stopped, cut_off, went_on, goes}
 use Rattle.runs.proofs.turning.until_nothing.Goals as goal
 

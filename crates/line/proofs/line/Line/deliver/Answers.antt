@@ -1,4 +1,4 @@
-use Rattle.std.proofs.Common.{◌≡◌, ℕ, List, None, Ok, sym, refl, ap, ◌∙◌, subst}
+use Rattle.std.proofs.Common.{ℕ, List, None, Ok, sym, refl, ap, subst}
 use Rattle.line.proofs.Handing.{handed}
 use Rattle.office.specs.Seen.{seen}
 use Rattle.protocol.specs.Steps.{Handover}
