@@ -15,7 +15,7 @@ use Rattle.transport.specs.declared.transport.Transport as transport
 
 module _ {O B K : Type 0} (o : transport.Ghosts O) (b : transport.Ghosts B) (k : taker.Ghosts K) where
   -- whatever run led here from a fresh line: with these calls it is a run too, and a safe one
-  pub record Goes_on (first : Line) (es made : List Event) (after : code.Line O B K) : Type 0 where
+  pub record GoesOn (first : Line) (es made : List Event) (after : code.Line O B K) : Type 0 where
     pub run : Run (over o b k) first (made ++ es) (model o b k after)
     pub safe : Safe (over o b k) first.page (made ++ es) (model o b k after)
 
@@ -24,7 +24,7 @@ module _ {O B K : Type 0} (o : transport.Ghosts O) (b : transport.Ghosts B) (k :
       (first : Line) (es : List Event) →
       Fresh first →
       Run (over o b k) first es (model o b k before) →
-      (got : Option Bytes) × Goes_on first es (event c got a ∷ []) after
+      (got : Option Bytes) × GoesOn first es (event c got a ∷ []) after
 
   -- the calls were made in order, each with its answer behind those recorded before; where there was no memory for
   -- the record, none was made
@@ -38,6 +38,6 @@ module _ {O B K : Type 0} (o : transport.Ghosts O) (b : transport.Ghosts B) (k :
         (first : Line) (es : List Event) →
         Fresh first →
         Run (over o b k) first es (model o b k start) →
-        Goes_on first es made end
+        GoesOn first es made end
     -- so from a fresh line the whole record is safe
     pub safe : Fresh (model o b k start) → Safe (over o b k) (model o b k start).page made (model o b k end)

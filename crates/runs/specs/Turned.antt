@@ -11,7 +11,7 @@ use Rattle.protocol.specs.Lines.{Line, Fresh}
 use Rattle.protocol.specs.Runs.{Run}
 use Rattle.protocol.specs.Steps.{Made}
 use Rattle.protocol.specs.Turns.{Turn, Ready, Settled}
-use Rattle.runs.specs.Recorded.{Goes_on}
+use Rattle.runs.specs.Recorded.{GoesOn}
 use Rattle.taker.specs.declared.taker.Taker as taker
 use Rattle.transport.specs.declared.transport.Transport as transport
 
@@ -28,7 +28,7 @@ module _ {O B K : Type 0} (o : transport.Ghosts O) (b : transport.Ghosts B) (k :
       (first : Line) (es : List Event) →
       Fresh first →
       Run (over o b k) first es (model o b k before) →
-      (made : List Event) × Goes_on o b k first es made after
+      (made : List Event) × GoesOn o b k first es made after
 
   pub record Turned (clock : ℕ) (told : TurnReport) (before after : code.Line O B K) : Type 0 where
     pub turn : Turn (over o b k) clock told (model o b k before) (model o b k after)
