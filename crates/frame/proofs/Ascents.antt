@@ -1,5 +1,6 @@
 -- Ranges that ascend, one more at the end.
 use Rattle.std.proofs.Common.{◌≡◌, ℕ, ◌+◌, ◌-◌, ◌<◌, ◌≤◌, true, ◌&&◌, ltb, leb, List, [], ◌∷◌, ◌++◌, length, get_or, take, sym, refl, ap, ◌∙◌, arith, ltb-true, leb-true}
+use Rattle.std.proofs.Math.Seq.{take-length}
 use Rattle.std.proofs.lemmas.List.{take_more}
 use Rattle.std.proofs.lemmas.Bool.{and_parts, and_from}
 use Rattle.frame.specs.Ascending.{starts_at, next_low, ascending, follows}
@@ -34,20 +35,12 @@ pub next_push : (low : ℕ) (xs : List Range) (x : Range) → next_low low (xs +
 next_push low [] x = refl
 next_push low (y ∷ xs) x = next_push (y.upper + 2) xs x
 
-high_push : (low : ℕ) (xs : List Range) (x : Range) → ascending low (xs ++ (x ∷ [])) ≡ true → x.upper ≤ M
-high_push low [] x a = (starts low x (and_parts (starts_at low x) true a).0).high
-high_push low (y ∷ xs) x a =
-    high_push (y.upper + 2) xs x (and_parts (starts_at low y) (ascending (y.upper + 2) (xs ++ (x ∷ []))) a).1
-
--- the first n of the list, by the last of them
-module _ (list : List Range) (n : ℕ) (d : Range) (some : 0 < n) (whole : n ≤ length list) where
-  last_of : take n list ≡ take (n - 1) list ++ (get_or list (n - 1) d ∷ [])
+-- some ranges, by the last of them
+module _ (xs : List Range) (d : Range) (some : 0 < length xs) where
+  last_of : xs ≡ take (length xs - 1) xs ++ (get_or xs (length xs - 1) d ∷ [])
   last_of =
-      let i : n ≡ (n - 1) + 1 = omega arith in
-      ap (λ k. take k list) i ∙ take_more list (n - 1) d (omega arith)
+      let i : length xs ≡ (length xs - 1) + 1 = omega arith in
+      sym (take-length xs) ∙ (ap (λ k. take k xs) i ∙ take_more xs (length xs - 1) d (omega arith))
 
-  pub last_high : ascending 1 (take n list) ≡ true → (get_or list (n - 1) d).upper ≤ M
-  last_high a = high_push 1 (take (n - 1) list) (get_or list (n - 1) d) (ap (ascending 1) (sym last_of) ∙ a)
-
-  pub last_next : (get_or list (n - 1) d).upper + 2 ≡ next_low 1 (take n list)
-  last_next = sym (ap (next_low 1) last_of ∙ next_push 1 (take (n - 1) list) (get_or list (n - 1) d))
+  pub last_next : (get_or xs (length xs - 1) d).upper + 2 ≡ next_low 1 xs
+  last_next = sym (ap (next_low 1) last_of ∙ next_push 1 (take (length xs - 1) xs) (get_or xs (length xs - 1) d))

@@ -5,14 +5,18 @@ use Rattle.std.specs.Prelude.{ℕ, ◌≤◌, cond, ◌&&◌, Some, None, Option
 abbrev pub M : ℕ
 M = 9223372036854775807
 
+-- the number n, where it is 1 to `most`
+abbrev pub number_up_to : ℕ → ℕ → Option ℕ
+number_up_to most n = cond (nat_le 1 n && nat_le n most) (Some n) None
+
 abbrev pub IsIdentifier : ℕ → Type 0
 IsIdentifier n = (1 ≤ n) × (n ≤ 4294967295)
 
 abbrev pub identifier_of : ℕ → Option ℕ
-identifier_of n = cond (nat_le 1 n && nat_le n 4294967295) (Some n) None
+identifier_of = number_up_to 4294967295
 
 abbrev pub IsNumber : ℕ → Type 0
 IsNumber n = (1 ≤ n) × (n ≤ M)
 
 abbrev pub number_of : ℕ → Option ℕ
-number_of n = cond (nat_le 1 n && nat_le n M) (Some n) None
+number_of = number_up_to M

@@ -1,7 +1,7 @@
-use crate::identifier::Identifier;
+use crate::bounded::Identifier;
 
 // What the office's end complains of, and the sequence that the complaint is about.
-#[derive(Clone, Copy)]
+#[derive(Clone, Copy, PartialEq, Eq, Debug)]
 pub enum Fault {
     UnknownSequence(Identifier),
     SequenceTerminated(Identifier),

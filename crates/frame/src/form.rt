@@ -1,36 +1,25 @@
 ghost use Rattle.std.specs.Prelude.{◌≡◌};
 ghost use Rattle.frame.specs.Forms.{form_number};
 
-// The ten forms of a frame.
-#[derive(Clone, Copy)]
+// The ten forms of a frame, each with its number.
+#[derive(Clone, Copy, PartialEq, Eq, Debug)]
 pub enum Form {
-    CreateSequence,
-    CreateSequenceResponse,
-    Sequence,
-    AckRequested,
-    SequenceAcknowledgement,
-    CloseSequence,
-    CloseSequenceResponse,
-    TerminateSequence,
-    TerminateSequenceResponse,
-    SequenceFault,
+    CreateSequence = 1,
+    CreateSequenceResponse = 2,
+    Sequence = 3,
+    AckRequested = 4,
+    SequenceAcknowledgement = 5,
+    CloseSequence = 6,
+    CloseSequenceResponse = 7,
+    TerminateSequence = 8,
+    TerminateSequenceResponse = 9,
+    SequenceFault = 10,
 }
 
 impl Form {
     pub fn number(self) -> u8
         ensures { result ≡ form_number self }
     {
-        match self {
-            Form::CreateSequence => 1,
-            Form::CreateSequenceResponse => 2,
-            Form::Sequence => 3,
-            Form::AckRequested => 4,
-            Form::SequenceAcknowledgement => 5,
-            Form::CloseSequence => 6,
-            Form::CloseSequenceResponse => 7,
-            Form::TerminateSequence => 8,
-            Form::TerminateSequenceResponse => 9,
-            Form::SequenceFault => 10,
-        }
+        self as u8
     }
 }

@@ -2,10 +2,9 @@ ghost use Rattle.std.specs.Prelude.{◌≡◌};
 ghost use Rattle.frame.specs.Forms.{form_of};
 ghost use Rattle.frame.specs.Meanings.{meaning};
 
+use crate::bounded::{Identifier, Number};
 use crate::fault::Fault;
 use crate::form::Form;
-use crate::identifier::Identifier;
-use crate::number::Number;
 use crate::ranges::Ranges;
 use letter::Letter;
 

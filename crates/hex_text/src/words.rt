@@ -16,6 +16,7 @@ pub fn parse(heap: Global, text: &[u8]) -> Result<Option<Vec<u8>>, AllocError>
     if text.is_empty() {
         return Ok(None);
     }
+    // pair by pair: what is left when no pair is left has to be empty
     let mut rest = text;
     while let [high, low, tail @ ..] = rest {
         let Some(b) = byte(*high, *low) else {
@@ -34,5 +35,5 @@ pub fn parse(heap: Global, text: &[u8]) -> Result<Option<Vec<u8>>, AllocError>
 fn is_dash(text: &[u8]) -> bool
     ensures { result ≡ is_dash text.now }
 {
-    text.len() == 1 && text[0] == b'-'
+    text == b"-".as_slice()
 }

@@ -15,12 +15,12 @@ pub fn decode(letter: &[u8]) -> Option<Change>
 fn fields(letter: &[u8]) -> Option<Change>
     ensures { result ≡ decoded letter.now }
 {
-    match letter {
+    match *letter {
         [1, t0, t1, t2, t3, s0, s1, e0, e1, e2, e3, l0, l1, l2, l3] => {
-            let train = u32::from_be_bytes([*t0, *t1, *t2, *t3]);
-            let section = u16::from_be_bytes([*s0, *s1]);
-            let enter = u32::from_be_bytes([*e0, *e1, *e2, *e3]);
-            let leave = u32::from_be_bytes([*l0, *l1, *l2, *l3]);
+            let train = u32::from_be_bytes([t0, t1, t2, t3]);
+            let section = u16::from_be_bytes([s0, s1]);
+            let enter = u32::from_be_bytes([e0, e1, e2, e3]);
+            let leave = u32::from_be_bytes([l0, l1, l2, l3]);
             if !are_train_and_section(train, section.into()) || !are_times(enter, leave) {
                 return None;
             }
@@ -32,8 +32,8 @@ fn fields(letter: &[u8]) -> Option<Change>
             }))
         }
         [2, t0, t1, t2, t3, s0, s1] => {
-            let train = u32::from_be_bytes([*t0, *t1, *t2, *t3]);
-            let section = u16::from_be_bytes([*s0, *s1]);
+            let train = u32::from_be_bytes([t0, t1, t2, t3]);
+            let section = u16::from_be_bytes([s0, s1]);
             if !are_train_and_section(train, section.into()) {
                 return None;
             }
@@ -47,7 +47,7 @@ fn fields(letter: &[u8]) -> Option<Change>
 pub(crate) fn are_train_and_section(train: u32, section: u32) -> bool
     ensures { result ≡ pair_in_range train section }
 {
-    1 <= train && train <= 999_999 && 1 <= section && section <= 9_999
+    (1..=999_999).contains(&train) && (1..=9_999).contains(&section)
 }
 
 // Whether a path may have these times.

@@ -44,8 +44,5 @@ pub fn withdrawal(train: u32, section: u32) -> Result<Letter, LetterRefusal>
     if !are_train_and_section(train, section) {
         return Err(LetterRefusal::Spoilt);
     }
-    match Letter::new(&encode_withdrawal(train, section as u16)) {
-        Some(letter) => Ok(letter),
-        None => unreachable(),
-    }
+    Ok(Letter::new(&encode_withdrawal(train, section as u16)).unwrap())
 }

@@ -19,7 +19,7 @@ impl Ranges {
     pub fn as_slice(&self) -> &[Range]
         ensures { result.now ≡ listed self.now }
     {
-        &self.list[0..self.count]
+        &self.list[..self.count]
     }
 
     // Puts the range behind the others if it may stand there, and answers whether it did.
@@ -52,10 +52,9 @@ impl Ranges {
     fn next_low(&self) -> u64
         ensures value { result ≡ next_low 1 (listed self.now) }
     {
-        if self.count == 0 {
-            1
-        } else {
-            self.list[self.count - 1].upper + 2
+        match self.as_slice() {
+            [] => 1,
+            [.., last] => last.upper + 2,
         }
     }
 }

@@ -12,18 +12,16 @@ impl Letter {
         if !is_letter(bytes) {
             return None;
         }
+        let len = bytes.len();
         let mut held = [0; MOST];
-        copy_front(&mut held, bytes);
-        Some(Letter {
-            bytes: held,
-            len: bytes.len(),
-        })
+        held[..len].copy_from_slice(bytes);
+        Some(Letter { bytes: held, len })
     }
 
     pub fn as_slice(&self) -> &[u8]
         ensures { result.now ≡ content self.now }
     {
-        &self.bytes[0..self.len]
+        &self.bytes[..self.len]
     }
 }
 
@@ -31,14 +29,5 @@ impl Letter {
 pub fn is_letter(bytes: &[u8]) -> bool
     ensures { result ≡ is_letter bytes.now }
 {
-    1 <= bytes.len() && bytes.len() <= MOST
-}
-
-// Writes one slice over the front of another.
-fn copy_front(to: &mut [u8], from: &[u8])
-    requires { length from.now ≤ length to.old }
-    ensures { to.new ≡ from.now ++ drop (length from.now) to.old }
-{
-    let n = from.len();
-    to[0..n].copy_from_slice(from);
+    (1..=MOST).contains(&bytes.len())
 }
