@@ -1,17 +1,29 @@
 -- Where a byte stands first.
-use Rattle.std.proofs.Common.{◌≡◌, ℕ, suc, ◌+◌, ◌<◌, Bool, true, not, ◌&&◌, eqb, List, [], ◌∷◌, ◌++◌, length, get_or, drop, ap, ◌∙◌, arith, eq-eqb, ne_eqb}
+use Rattle.std.specs.List.{position_or_len}
+use Rattle.std.specs.Option.{unwrap_or}
+use Rattle.std.proofs.lemmas.List.Recursion.{is_position_or_len}
+use Rattle.std.proofs.Common.{inl, inr, ltb, Some, None, Option, ◌≤◌, cond, sym, refl, ltb-false, ◌≡◌, ℕ, suc, ◌+◌, Bool, true, not, ◌&&◌, eqb, List, [], ◌∷◌, ◌++◌, length, ap, ◌∙◌, arith}
 use borrow.Author.Tests.{not-true}
-use Rattle.std.proofs.lemmas.List.{at_drop_more}
-use Rattle.std.proofs.lemmas.Bool.{and_parts, and_from, cond-true, cond-false}
+use Rattle.std.proofs.lemmas.Bool.{and_parts, and_from, cond-true, cond-false, cases_Bool}
 use Rattle.pieces.specs.Cuts.{before}
 
--- the steps of the loop
-pub found_here : (b : ℕ) (bs : List ℕ) (i : ℕ) → i < length bs → get_or bs i 0 ≡ b → before b (drop i bs) ≡ 0
-found_here b bs i l e = at_drop_more (before b) bs i 0 l ∙ cond-true _ _ _ (eq-eqb _ _ e)
+before_bound : (b : ℕ) (bs : List ℕ) → before b bs ≤ length bs
+before_bound b [] = omega arith
+before_bound b (c ∷ cs) = elim (cases_Bool (eqb c b)) [
+  | inl e ↦ omega (arith, cond-true {A = ℕ} _ 0 (suc (before b cs)) e)
+  | inr e ↦ omega (arith, cond-false {A = ℕ} _ 0 (suc (before b cs)) e, before_bound b cs)
+]
 
-pub found_later : (b : ℕ) (bs : List ℕ) (i : ℕ) → i < length bs → (get_or bs i 0 ≡ b → ⊥)
-    → before b (drop i bs) ≡ suc (before b (drop (i + 1) bs))
-found_later b bs i l e = at_drop_more (before b) bs i 0 l ∙ cond-false _ _ _ (ne_eqb _ _ e)
+-- the first place where b stands, or the end
+pub first_or_end : (b : ℕ) (bs : List ℕ) (o : Option ℕ) →
+    o ≡ cond (ltb (position_or_len (λ x. eqb x b) bs) (length bs)) (Some (position_or_len (λ x. eqb x b) bs)) None →
+    unwrap_or o (length bs) ≡ before b bs
+first_or_end b bs o e =
+    let p = is_position_or_len (before b) (λ x. eqb x b) refl (λ x xs. ap (cond (eqb x b) 0) (omega arith)) bs in
+    elim (cases_Bool (ltb (position_or_len (λ x. eqb x b) bs) (length bs))) [
+      | inl l ↦ ap (λ x. unwrap_or x (length bs)) (e ∙ cond-true _ _ _ l) ∙ sym p
+      | inr l ↦ ap (λ x. unwrap_or x (length bs)) (e ∙ cond-false _ _ _ l) ∙ omega (arith, ltb-false _ _ l, p, before_bound b bs)
+    ]
 
 -- behind bytes among which it is not
 abbrev pub without : ℕ → List ℕ → Bool

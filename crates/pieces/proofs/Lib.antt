@@ -1,11 +1,10 @@
 pub mod Options
 pub mod Finds
 pub mod Strips
-pub mod Decimals
 pub mod Numbers
 pub mod Readings
 pub mod Attributes
 pub mod Letters
-pub mod Pairs
 pub mod TagPieces
 pub mod TokenTags
+pub mod Pairs

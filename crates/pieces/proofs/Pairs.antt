@@ -1,33 +1,41 @@
--- The steps of the loop that reads the pairs of digits.
-use Rattle.std.proofs.Common.{◌≡◌, ℕ, ◌+◌, ◌*◌, ◌<◌, true, false, ◌&&◌, List, [], ◌∷◌, ◌++◌, length, get_or, drop, Some, None, sym, ap, ◌∙◌, arith}
-use Rattle.std.proofs.lemmas.List.{at_drop_more, at_drop_all}
-use Rattle.std.proofs.lemmas.Bool.{cond-true, cond-false, and_from}
-use Rattle.pieces.specs.Hex.{is_hex, hex_value, read_pairs}
+-- One pair of digits read makes one byte more, and the rest is left to read.
+use Rattle.std.specs.Bool.{then_some}
+use Rattle.std.specs.Option.{option_map}
+use Rattle.std.proofs.Common.{◌<◌, ◌==◌, refl, ◌≡◌, ℕ, ◌-◌, ◌≤◌, ◌&&◌, List, [], ◌∷◌, ◌++◌, length, get_or, take, drop, Some, None, inl, inr, sym, ap, ◌∙◌, arith}
+use Rattle.std.proofs.lemmas.Bool.{cases_Bool, cond-true, cond-false}
+use Rattle.std.proofs.lemmas.List.{take_all}
+use Rattle.pieces.specs.Hex.{is_hex, byte_of, read_pairs}
+use Rattle.pieces.proofs.Options.{none_some, some_cond}
 
--- two digits at a time
-two : (acc p : List ℕ) (j : ℕ) → j + 1 < length p
-    → read_pairs acc (drop j p) ≡ read_pairs acc (get_or p j 0 ∷ (get_or p (j + 1) 0 ∷ drop (j + 2) p))
-two acc p j l =
-    at_drop_more (read_pairs acc) p j 0 (omega arith) ∙
-    (at_drop_more (λ t. read_pairs acc (get_or p j 0 ∷ t)) p (j + 1) 0 l ∙
-    ap (λ i. read_pairs acc (get_or p j 0 ∷ (get_or p (j + 1) 0 ∷ drop i p))) (omega arith))
-
-pub pairs_bad : (acc p : List ℕ) (j : ℕ) → j + 1 < length p → (is_hex (get_or p j 0) && is_hex (get_or p (j + 1) 0)) ≡ false → read_pairs acc (drop j p) ≡ None
+pub pair_bad : (front rest : List ℕ) → 2 ≤ length rest → byte_of (get_or rest 0 0) (get_or rest 1 0) ≡ None → read_pairs front rest ≡ None
 unfolding read_pairs
-pairs_bad acc p j l e = two acc p j l ∙ cond-false _ _ _ e
+pair_bad front [] long is = absurd (let z : ⊥ = omega arith in z)
+pair_bad front (high ∷ []) long is = absurd (let z : ⊥ = omega arith in z)
+pair_bad front (high ∷ low ∷ rest) long is =
+    elim (cases_Bool (is_hex high && is_hex low)) [
+      | inl e ↦ absurd (none_some _ (sym is ∙ cond-true _ _ _ e))
+      | inr e ↦ cond-false _ _ _ e
+    ]
 
-pub pairs_more : (acc p : List ℕ) (j i : ℕ) → j + 1 < length p → i ≡ j + 2 → is_hex (get_or p j 0) ≡ true → is_hex (get_or p (j + 1) 0) ≡ true
-    → read_pairs acc (drop j p) ≡ read_pairs (acc ++ ((hex_value (get_or p j 0) * 16 + hex_value (get_or p (j + 1) 0)) ∷ [])) (drop i p)
+pub pair_more :
+    (front front' rest : List ℕ) (byte : ℕ) →
+    2 ≤ length rest →
+    byte_of (get_or rest 0 0) (get_or rest 1 0) ≡ Some byte →
+    front' ≡ front ++ byte ∷ [] →
+    read_pairs front rest ≡ read_pairs front' (take (length rest - 2) (drop 2 rest))
 unfolding read_pairs
-pairs_more acc p j i l e a b =
-    two acc p j l ∙
-    (cond-true _ _ _ (and_from _ _ a b) ∙
-    ap (λ i. read_pairs (acc ++ ((hex_value (get_or p j 0) * 16 + hex_value (get_or p (j + 1) 0)) ∷ [])) (drop i p)) (sym e))
+pair_more front front' [] byte long is e = absurd (let z : ⊥ = omega arith in z)
+pair_more front front' (high ∷ []) byte long is e = absurd (let z : ⊥ = omega arith in z)
+pair_more front front' (high ∷ low ∷ rest) byte long is e =
+    let s = some_cond (is_hex high && is_hex low) _ byte is in
+    cond-true _ _ _ s.0 ∙
+    (ap (λ more. read_pairs more rest) (ap (λ b. front ++ b ∷ []) (let f = s.1 in cc) ∙ sym e) ∙
+    ap (read_pairs front') (sym (take_all _ rest (omega arith))))
 
-pub pairs_odd : (acc p : List ℕ) (j : ℕ) → length p ≡ j + 1 → read_pairs acc (drop j p) ≡ None
+-- what is left when no pair is left is nothing or half a pair
+pub pair_end : {A : Type 0} (items : A → List ℕ) (a : A) (rest : List ℕ) → length rest < 2
+    → option_map items (then_some (length rest == 0) a) ≡ read_pairs (items a) rest
 unfolding read_pairs
-pairs_odd acc p j e = at_drop_more (read_pairs acc) p j 0 (omega arith) ∙ at_drop_all (λ t. read_pairs acc (get_or p j 0 ∷ t)) p (j + 1) (omega arith)
-
-pub pairs_all : (acc p : List ℕ) (j : ℕ) → length p ≡ j → read_pairs acc (drop j p) ≡ Some acc
-unfolding read_pairs
-pairs_all acc p j e = at_drop_all (read_pairs acc) p j (omega arith)
+pair_end items a [] less = refl
+pair_end items a (half ∷ []) less = refl
+pair_end items a (high ∷ low ∷ rest) less = absurd (let z : ⊥ = omega arith in z)

@@ -25,3 +25,11 @@ read_pairs acc (a ∷ (b ∷ cs)) =
 
 abbrev pub letter_read : List ℕ → Option (List ℕ)
 letter_read p = cond (nat_le (length p) 96) (then (read_pairs [] p) letter_of) None
+
+-- the value of a digit, if it is one
+abbrev pub hex_digit : ℕ → Option ℕ
+hex_digit c = cond (is_hex c) (Some (hex_value c)) None
+
+-- the byte of two digits, if they are digits
+abbrev pub byte_of : ℕ → ℕ → Option ℕ
+byte_of high low = cond (is_hex high && is_hex low) (Some (hex_value high * 16 + hex_value low)) None

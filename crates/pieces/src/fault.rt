@@ -3,7 +3,7 @@ ghost use Rattle.pieces.specs.Refusals.{refusal_number};
 
 // That bytes are no frame: the place of the first piece that no form allows there, or the length
 // where the bytes end early.
-#[derive(Clone, Copy)]
+#[derive(Clone, Copy, PartialEq, Eq, Debug)]
 pub struct ReadFault {
     pub place: usize,
 }

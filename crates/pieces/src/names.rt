@@ -55,7 +55,7 @@ impl Element {
 }
 
 // What a SequenceFault may complain of.
-#[derive(Clone, Copy)]
+#[derive(Clone, Copy, PartialEq, Eq, Debug)]
 pub enum FaultCode {
     UnknownSequence,
     SequenceTerminated,

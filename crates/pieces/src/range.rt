@@ -18,12 +18,9 @@ struct Field<'a> {
 fn first_number(bytes: &[u8]) -> Option<Field<'_>>
     ensures { option_map (λ x. (x.number, x.rest.now)) result ≡ field_of bytes.now }
 {
-    let n = find(bytes, b'"');
-    let number = decimal(&bytes[0..n])?;
-    Some(Field {
-        number,
-        rest: &bytes[n..],
-    })
+    let (digits, rest) = bytes.split_at(find(bytes, b'"'));
+    let number = decimal(digits)?;
+    Some(Field { number, rest })
 }
 
 // The range whose tag this is, whatever its numbers.
@@ -46,5 +43,5 @@ pub fn read_range(part: &[u8]) -> Option<Range>
 fn ended(end: &[u8], range: Range) -> Option<Range>
     ensures { result ≡ range_end range end.now }
 {
-    if end.is_empty() { Some(range) } else { None }
+    end.is_empty().then_some(range)
 }

@@ -1,9 +1,12 @@
 // What the text between two tags says.
 ghost use Rattle.std.specs.Prelude.{◌≡◌};
+ghost use Rattle.std.specs.List.{find};
 ghost use Rattle.std.specs.Option.{option_map};
+ghost use Rattle.std.specs.Str.{bytes_eq};
+ghost use Rattle.pieces.specs.Names.{fault_name};
 ghost use Rattle.pieces.specs.Values.{identifier_read, number_read, fault_code_read};
 
-use crate::bytes::{same, strip};
+use crate::bytes::strip;
 use crate::decimal::decimal;
 use crate::names::FaultCode;
 use frame::{Identifier, Number};
@@ -27,15 +30,20 @@ pub fn read_number(text: &[u8]) -> Option<Number>
 pub fn read_fault_code(text: &[u8]) -> Option<FaultCode>
     ensures { result ≡ fault_code_read text.now }
 {
-    if same(text, FaultCode::UnknownSequence.name()) {
-        Some(FaultCode::UnknownSequence)
-    } else if same(text, FaultCode::SequenceTerminated.name()) {
-        Some(FaultCode::SequenceTerminated)
-    } else if same(text, FaultCode::SequenceClosed.name()) {
-        Some(FaultCode::SequenceClosed)
-    } else if same(text, FaultCode::CreateSequenceRefused.name()) {
-        Some(FaultCode::CreateSequenceRefused)
-    } else {
-        None
-    }
+    named(
+        text,
+        &[
+            FaultCode::UnknownSequence,
+            FaultCode::SequenceTerminated,
+            FaultCode::SequenceClosed,
+            FaultCode::CreateSequenceRefused,
+        ],
+    )
+}
+
+// The first of these whose name this is.
+fn named(text: &[u8], codes: &[FaultCode]) -> Option<FaultCode>
+    ensures { result ≡ find (λ code. bytes_eq text.now (fault_name code)) codes.now }
+{
+    codes.iter().find(|code| text == code.name()).copied()
 }

@@ -1,14 +1,12 @@
-use Rattle.std.proofs.Common.{rules}
-use Rattle.std.proofs.lemmas.List.{at_drop_all}
-use Rattle.pieces.specs.Cuts.{before}
-use Rattle.pieces.proofs.Finds.{found_here, found_later}
+use Rattle.std.proofs.Common.{eqb, rules, ◌∙◌}
+use Rattle.std.proofs.lemmas.Iterator.{YieldsList-from_slice}
+use Rattle.std.proofs.lemmas.Iterator.Search.{position_from_yields_List}
+use Rattle.pieces.proofs.Finds.{first_or_end}
 use Rattle.pieces.proofs.bytes.find.Goals as goal
 
-pub returns-then-x-b : goal.returns-then-x-b
-returns-then-x-b c = search (rules, found_here)
-
-pub loop-i-preserved : goal.loop-i-preserved
-loop-i-preserved c = search (rules, found_later)
-
-pub returns : goal.returns
-returns c = search (rules, at_drop_all (before c.args.b))
+pub returns-clause-value : goal.returns-clause-value
+returns-clause-value c =
+    c.unwrap_or.ensures ∙
+    first_or_end c.args.b c.args.bytes.now _
+    (position_from_yields_List (λ x. eqb x c.args.b) _ _ _ c.position.ensures.ran
+    (YieldsList-from_slice c.args.bytes.now (cc)) (λ x b q k. search rules))
