@@ -1,47 +1,45 @@
 -- An edit of the paths at the spot of a pair is a put or a withdrawal of that pair.
-use Rattle.std.proofs.Common.{◌≡◌, ℕ, ◌<◌, ◌≤◌, Bool, true, false, cond, ◌||◌, ltb, List, [], ◌∷◌, length, set, is_some, Some, Option, sym, refl, ap, ◌∙◌}
+use Rattle.std.proofs.Common.{◌≡◌, ℕ, ◌<◌, ◌≤◌, Bool, true, false, cond, ◌||◌, ltb, List, [], ◌∷◌, length, set, is_some, Some, Ok, Err, Option, Result, sym, refl, ap, ◌∙◌}
 use Rattle.std.specs.List.{insert, remove}
 use Rattle.std.proofs.lemmas.Bool.{and_parts, both_ways, lt-ltb, le-ltb, cond-true, cond-false}
 use Rattle.letter.specs.declared.change.Path.{Path}
-use Rattle.taker.specs.declared.book.paths.Spot.{Spot}
-use Rattle.taker.specs.declared.book.paths.Spot.TheVariants.{Held, Free}
 use Rattle.taker.specs.Paths.{earlier, same, look, holds, put, without, ascending, has_place, put_paths}
 use Rattle.taker.specs.Spots.{next, spot_of}
 use Rattle.taker.proofs.Lookups.{apart, not_front, none_later}
 
 -- what the code does at a spot
 
-abbrev put_spot : Path → List Path → Spot → List Path
-put_spot p ps (Held i) = set ps i p
-put_spot p ps (Free i) = insert ps i p
+abbrev put_spot : Path → List Path → Result ℕ ℕ → List Path
+put_spot p ps (Ok i) = set ps i p
+put_spot p ps (Err i) = insert ps i p
 
-abbrev without_spot : List Path → Spot → List Path
-without_spot ps (Held i) = remove ps i
-without_spot ps (Free i) = ps
+abbrev without_spot : List Path → Result ℕ ℕ → List Path
+without_spot ps (Ok i) = remove ps i
+without_spot ps (Err i) = ps
 
-abbrev is_held : Spot → Bool
-is_held (Held i) = true
-is_held (Free i) = false
+abbrev is_held : Result ℕ ℕ → Bool
+is_held (Ok i) = true
+is_held (Err i) = false
 
-put_next : (p q : Path) (qs : List Path) (x : Spot) → put_spot p (q ∷ qs) (next x) ≡ q ∷ put_spot p qs x
-put_next p q qs (Held i) = refl
-put_next p q qs (Free i) = refl
+put_next : (p q : Path) (qs : List Path) (x : Result ℕ ℕ) → put_spot p (q ∷ qs) (next x) ≡ q ∷ put_spot p qs x
+put_next p q qs (Ok i) = refl
+put_next p q qs (Err i) = refl
 
-without_next : (q : Path) (qs : List Path) (x : Spot) → without_spot (q ∷ qs) (next x) ≡ q ∷ without_spot qs x
-without_next q qs (Held i) = refl
-without_next q qs (Free i) = refl
+without_next : (q : Path) (qs : List Path) (x : Result ℕ ℕ) → without_spot (q ∷ qs) (next x) ≡ q ∷ without_spot qs x
+without_next q qs (Ok i) = refl
+without_next q qs (Err i) = refl
 
-held_next : (x : Spot) → is_held (next x) ≡ is_held x
-held_next (Held i) = refl
-held_next (Free i) = refl
+held_next : (x : Result ℕ ℕ) → is_held (next x) ≡ is_held x
+held_next (Ok i) = refl
+held_next (Err i) = refl
 
 -- a put
 
 put_by :
-    (p q : Path) (qs : List Path) (x : Spot) (b c : Bool) →
+    (p q : Path) (qs : List Path) (x : Result ℕ ℕ) (b c : Bool) →
     put p qs ≡ put_spot p qs x →
     cond b (q ∷ put p qs) (cond c (p ∷ qs) (p ∷ (q ∷ qs))) ≡
-    put_spot p (q ∷ qs) (cond b (next x) (cond c (Held 0) (Free 0)))
+    put_spot p (q ∷ qs) (cond b (next x) (cond c (Ok 0) (Err 0)))
 put_by p q qs x true c h = ap (λ l. q ∷ l) h ∙ sym (put_next p q qs x)
 put_by p q qs x false true h = refl
 put_by p q qs x false false h = refl
@@ -55,11 +53,11 @@ put_is p (q ∷ qs) =
 -- whether a path is held
 
 holds_by :
-    (q : Path) (o : Option Path) (x : Spot) (b c : Bool) →
+    (q : Path) (o : Option Path) (x : Result ℕ ℕ) (b c : Bool) →
     (b ≡ true → c ≡ false) →
     (b ≡ false → is_some o ≡ false) →
     is_some o ≡ is_held x →
-    is_some (cond c (Some q) o) ≡ is_held (cond b (next x) (cond c (Held 0) (Free 0)))
+    is_some (cond c (Some q) o) ≡ is_held (cond b (next x) (cond c (Ok 0) (Err 0)))
 holds_by q o x true true a n h = absurd (both_ways true (a refl) refl)
 holds_by q o x true false a n h = h ∙ sym (held_next x)
 holds_by q o x false true a n h = refl
@@ -81,11 +79,11 @@ without_none t s (q ∷ qs) h =
     cond-false _ _ _ e.0 ∙ ap (λ l. q ∷ l) (without_none t s qs e.1)
 
 without_by :
-    (t s : ℕ) (q : Path) (qs : List Path) (x : Spot) (b c : Bool) →
+    (t s : ℕ) (q : Path) (qs : List Path) (x : Result ℕ ℕ) (b c : Bool) →
     (b ≡ true → c ≡ false) →
     (b ≡ false → without t s qs ≡ qs) →
     without t s qs ≡ without_spot qs x →
-    cond c qs (q ∷ without t s qs) ≡ without_spot (q ∷ qs) (cond b (next x) (cond c (Held 0) (Free 0)))
+    cond c qs (q ∷ without t s qs) ≡ without_spot (q ∷ qs) (cond b (next x) (cond c (Ok 0) (Err 0)))
 without_by t s q qs x true true a n h = absurd (both_ways true (a refl) refl)
 without_by t s q qs x true false a n h = ap (λ l. q ∷ l) h ∙ sym (without_next q qs x)
 without_by t s q qs x false true a n h = refl
@@ -98,41 +96,35 @@ without_is t s (q ∷ qs) a =
     without_by t s q qs (spot_of t s qs) (earlier t s q) (same t s q)
     (apart t s q) (λ e. without_none t s qs (none_later t s q qs e h.0)) (without_is t s qs h.1)
 
--- the spot x was found in qs, which are the paths
-module _ (ps qs : List Path) (q : qs ≡ ps) (a : ascending ps ≡ true) where
-  withdrawn : (t s : ℕ) (x : Spot) → x ≡ spot_of t s qs → without_spot ps x ≡ without t s ps
-  withdrawn t s x e = sym (without_is t s ps a ∙ ap (without_spot ps) (sym (e ∙ ap (spot_of t s) q)))
+-- at the spot of a train and section
+module _ (ps : List Path) (a : ascending ps ≡ true) where
+  pub removed_held : (t s i : ℕ) → Ok i ≡ spot_of t s ps → remove ps i ≡ without t s ps
+  removed_held t s i e = sym (without_is t s ps a ∙ ap (without_spot ps) (sym e))
 
-  pub removed_held : (t s i : ℕ) → Held i ≡ spot_of t s qs → remove ps i ≡ without t s ps
-  removed_held t s i e = withdrawn t s (Held i) e
-
-  pub kept_free : (t s i : ℕ) → Free i ≡ spot_of t s qs → ps ≡ without t s ps
-  kept_free t s i e = withdrawn t s (Free i) e
+  pub kept_free : (t s i : ℕ) → Err i ≡ spot_of t s ps → ps ≡ without t s ps
+  kept_free t s i e = sym (without_is t s ps a ∙ ap (without_spot ps) (sym e))
 
   module _ (p : Path) (i : ℕ) where
-    at : (x : Spot) → x ≡ spot_of p.train p.section qs → spot_of p.train p.section ps ≡ x
-    at x e = sym (e ∙ ap (spot_of p.train p.section) q)
+    place : (x : Result ℕ ℕ) → x ≡ spot_of p.train p.section ps → has_place p ps ≡ (is_held x || ltb (length ps) 32)
+    place x e = ap (λ b. b || ltb (length ps) 32) (holds_is p.train p.section ps a ∙ ap is_held (sym e))
 
-    place : (x : Spot) → x ≡ spot_of p.train p.section qs → has_place p ps ≡ (is_held x || ltb (length ps) 32)
-    place x e = ap (λ b. b || ltb (length ps) 32) (holds_is p.train p.section ps a ∙ ap is_held (at x e))
+    edited : (x : Result ℕ ℕ) → x ≡ spot_of p.train p.section ps → has_place p ps ≡ true → put_spot p ps x ≡ put_paths p ps
+    edited x e h = sym (cond-true _ _ _ h ∙ put_is p ps ∙ ap (put_spot p ps) (sym e))
 
-    edited : (x : Spot) → x ≡ spot_of p.train p.section qs → has_place p ps ≡ true → put_spot p ps x ≡ put_paths p ps
-    edited x e h = sym (cond-true _ _ _ h ∙ put_is p ps ∙ ap (put_spot p ps) (at x e))
+    pub has_held : Ok i ≡ spot_of p.train p.section ps → true ≡ has_place p ps
+    has_held e = sym (place (Ok i) e)
 
-    pub has_held : Held i ≡ spot_of p.train p.section qs → true ≡ has_place p ps
-    has_held e = sym (place (Held i) e)
+    pub has_free : Err i ≡ spot_of p.train p.section ps → length ps < 32 → true ≡ has_place p ps
+    has_free e h = sym (place (Err i) e ∙ lt-ltb _ _ h)
 
-    pub has_free : Free i ≡ spot_of p.train p.section qs → length ps < 32 → true ≡ has_place p ps
-    has_free e h = sym (place (Free i) e ∙ lt-ltb _ _ h)
+    pub has_none : Err i ≡ spot_of p.train p.section ps → 32 ≤ length ps → false ≡ has_place p ps
+    has_none e h = sym (place (Err i) e ∙ le-ltb _ _ h)
 
-    pub has_none : Free i ≡ spot_of p.train p.section qs → 32 ≤ length ps → false ≡ has_place p ps
-    has_none e h = sym (place (Free i) e ∙ le-ltb _ _ h)
+    pub set_held : Ok i ≡ spot_of p.train p.section ps → set ps i p ≡ put_paths p ps
+    set_held e = edited (Ok i) e (sym (has_held e))
 
-    pub set_held : Held i ≡ spot_of p.train p.section qs → set ps i p ≡ put_paths p ps
-    set_held e = edited (Held i) e (sym (has_held e))
+    pub insert_free : Err i ≡ spot_of p.train p.section ps → length ps < 32 → insert ps i p ≡ put_paths p ps
+    insert_free e h = edited (Err i) e (sym (has_free e h))
 
-    pub insert_free : Free i ≡ spot_of p.train p.section qs → length ps < 32 → insert ps i p ≡ put_paths p ps
-    insert_free e h = edited (Free i) e (sym (has_free e h))
-
-    pub full_free : Free i ≡ spot_of p.train p.section qs → 32 ≤ length ps → ps ≡ put_paths p ps
+    pub full_free : Err i ≡ spot_of p.train p.section ps → 32 ≤ length ps → ps ≡ put_paths p ps
     full_free e h = sym (cond-false _ _ _ (sym (has_none e h)))

@@ -1,14 +1,11 @@
 -- The page of a book shows its count and its paths, and the book's step at its page.
-use Rattle.std.proofs.Common.{◌≡◌, ℕ, Bool, true, false, cond, List, [], ◌∷◌, length, is_ok, Some, None, Ok, Err, Option, Result, sym, refl, ap, ◌∙◌}
-use Rattle.std.specs.List.{slice_get}
-use Rattle.std.proofs.lemmas.Option.{slice_get_read, slice_get_past}
+use Rattle.std.proofs.Common.{◌≡◌, ℕ, Bool, true, false, cond, List, [], ◌∷◌, is_ok, Some, None, Ok, Err, Option, Result, sym, refl, ap}
 use Rattle.std.proofs.lemmas.Bool.{both_ways}
 use Rattle.letter.specs.declared.change.Change.{Change}
 use Rattle.letter.specs.declared.change.Path.{Path}
 use Rattle.taker.specs.declared.refusal.TakerRefusal.{TakerRefusal}
 use Rattle.taker.specs.declared.refusal.TakerRefusal.TheVariants.{NoPage}
 use Rattle.taker.specs.Books.{page_of, paths_of, stepped, change_step}
-use Rattle.taker.specs.Paths.{PathAt}
 use Rattle.taker.specs.Steps.{Page, answer, page_after}
 
 pub shown_paths : (n : ℕ) (ps : List Path) → paths_of (page_of n ps) ≡ ps
@@ -17,16 +14,6 @@ shown_paths n (p ∷ ps) = ap (λ l. p ∷ l) (shown_paths n ps)
 
 pub step_is : (n : ℕ) (ps : List Path) (change : Option Change) → change_step (page_of n ps) change ≡ stepped n ps change
 step_is n ps change = ap (λ l. stepped n l change) (shown_paths n ps)
-
--- a question after path i of the paths themselves answers path i of the page
-pub shown_path :
-    (n : ℕ) (ps qs : List Path) (i : ℕ) (o : Option Path) →
-    qs ≡ ps →
-    PathAt qs i o →
-    o ≡ slice_get (paths_of (page_of n ps)) i
-shown_path n ps qs i None e past = sym (ap (λ l. slice_get l i) (shown_paths n ps ∙ sym e) ∙ slice_get_past qs i past)
-shown_path n ps qs i (Some p) e is =
-    sym (ap (λ l. slice_get l i) (shown_paths n ps ∙ sym e) ∙ slice_get_read qs (length qs) i p refl is.0 (sym is.1))
 
 -- an answer by a test, and what it leaves
 

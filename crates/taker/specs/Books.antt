@@ -58,4 +58,4 @@ pub sized_of_book : (before bytes : List ℕ) → is_letter bytes ≡ false → 
 sized_of_book before bytes e = cond-false _ _ _ e
 
 abbrev pub book_page : Book → Page
-book_page b = page_of b.spoilt (vec_items b.paths)
+book_page b = page_of b.spoilt (vec_items b.paths.items)

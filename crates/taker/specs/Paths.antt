@@ -1,6 +1,6 @@
 -- A list of paths in ascending order of train and section, with at most one path for each pair:
 -- what it holds for a pair, and what putting and withdrawing a path make of it.
-use Rattle.std.specs.Prelude.{◌≡◌, ℕ, ◌<◌, ◌≤◌, Bool, true, cond, ◌&&◌, ◌||◌, List, [], ◌∷◌, length, is_some, Some, None, Option, ◌==◌, nat_lt, slice_index_or}
+use Rattle.std.specs.Prelude.{ℕ, Bool, true, cond, ◌&&◌, ◌||◌, List, [], ◌∷◌, length, is_some, Some, None, Option, ◌==◌, nat_lt}
 use Rattle.letter.specs.declared.change.Path.{Path}
 
 -- the path comes before this train and section
@@ -40,11 +40,6 @@ put p (q ∷ qs) =
 abbrev pub without : ℕ → ℕ → List Path → List Path
 without train section [] = []
 without train section (q ∷ qs) = cond (same train section q) qs (q ∷ without train section qs)
-
--- the answer is path i of the list, or none past the last
-abbrev pub PathAt : List Path → ℕ → Option Path → Type 0
-PathAt ps i None = length ps ≤ i
-PathAt ps i (Some p) = (i < length ps) × (slice_index_or ps i p ≡ p)
 
 -- a put finds a place: its train and section are held, or fewer than 32 paths are
 abbrev pub has_place : Path → List Path → Bool

@@ -1,25 +1,21 @@
--- Where a train and section stands in an ascending list of paths.
-use Rattle.std.specs.Prelude.{ℕ, suc, ◌+◌, ◌<◌, ◌≤◌, cond, List, [], ◌∷◌}
+-- Where a train and section stands in an ascending list of paths: at the place of its path,
+-- or else before the first later one.
+use Rattle.std.specs.Prelude.{ℕ, suc, cond, List, [], ◌∷◌, Ok, Err, Result}
+use Rattle.std.proofs.Common.{Ordering}
+use Rattle.std.specs.Ordering.{nat_cmp, ordering_then}
 use Rattle.letter.specs.declared.change.Path.{Path}
 use Rattle.taker.specs.Paths.{earlier, same}
-use Rattle.taker.specs.declared.book.paths.Spot.{Spot}
-use Rattle.taker.specs.declared.book.paths.Spot.TheVariants.{Held, Free}
 
--- n places further on
-abbrev pub shifted : ℕ → Spot → Spot
-shifted n (Held i) = Held (n + i)
-shifted n (Free i) = Free (n + i)
+-- how a path's train and section compare with these
+abbrev pub compared : ℕ → ℕ → Path → Ordering
+compared train section p = ordering_then (nat_cmp p.train train) (nat_cmp p.section section)
 
-abbrev pub next : Spot → Spot
-next (Held i) = Held (suc i)
-next (Free i) = Free (suc i)
+-- one place further on
+abbrev pub next : Result ℕ ℕ → Result ℕ ℕ
+next (Ok i) = Ok (suc i)
+next (Err i) = Err (suc i)
 
-abbrev pub spot_of : ℕ → ℕ → List Path → Spot
-spot_of train section [] = Free 0
+abbrev pub spot_of : ℕ → ℕ → List Path → Result ℕ ℕ
+spot_of train section [] = Err 0
 spot_of train section (p ∷ ps) =
-    cond (earlier train section p) (next (spot_of train section ps)) (cond (same train section p) (Held 0) (Free 0))
-
--- a held spot is a place of a list of n, and a free one may be its end
-abbrev pub Within : Spot → ℕ → Type 0
-Within (Held i) n = i < n
-Within (Free i) n = i ≤ n
+    cond (earlier train section p) (next (spot_of train section ps)) (cond (same train section p) (Ok 0) (Err 0))

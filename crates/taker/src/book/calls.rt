@@ -4,8 +4,8 @@ ghost use Rattle.taker.specs.BookLaws.{HoldsLastWord, Ordered, Taken};
 ghost use Rattle.taker.specs.Books.{book_page, book_step, change_step, one_more, sized_of_book};
 ghost use Rattle.taker.specs.Steps.{Follows, Takes};
 
-use super::paths::{put_path, remove_path};
-use super::{Book, MOST};
+use super::Book;
+use super::paths::Paths;
 use crate::refusal::TakerRefusal;
 use crate::taker::Taker;
 use letter::{Change, Path, decode, is_letter};
@@ -16,7 +16,7 @@ impl Book {
     pub fn new(heap: Global) -> Result<Book, AllocError>
         ensures { IfOk result (λ b. book_page b ≡ 0 ∷ []) }
     {
-        let paths = Vec::with_capacity(heap, MOST)?;
+        let paths = Paths::new(heap)?;
         Ok(Book { spoilt: 0, paths })
     }
 }
@@ -65,14 +65,14 @@ impl Book {
         ensures { Follows (change_step (book_page self.old) (Some (Put p)))
             (book_page self.old) result (book_page self.new) }
     {
-        put_path(&mut self.paths, p)
+        self.paths.put(p)
     }
 
     fn withdraw(&mut self, train: u32, section: u16)
         ensures { Some (book_page self.new) ≡
             change_step (book_page self.old) (Some (Withdrawal train section)) }
     {
-        remove_path(&mut self.paths, train, section);
+        self.paths.remove(train, section);
     }
 
     fn spoil(&mut self)

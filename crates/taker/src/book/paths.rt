@@ -1,91 +1,81 @@
-ghost use Rattle.std.specs.Prelude.{◌≡◌, ◌≤◌, true, length, is_ok, vec_len, vec_capacity};
-ghost use Rattle.taker.specs.Paths.{PathAt, earlier, same, ascending, has_place, put_paths, without};
-ghost use Rattle.taker.specs.Spots.{spot_of, Within};
+ghost use Rattle.std.specs.Prelude.{◌≡◌, ◌≤◌, true, [], length, is_ok, IfOk, vec_len, vec_capacity};
+ghost use Rattle.std.specs.List.Sorted.{IsSearchInRange};
+ghost use Rattle.taker.specs.Paths.{ascending, has_place, put_paths, without};
+ghost use Rattle.taker.specs.Spots.{spot_of};
 
-use super::MOST;
 use crate::refusal::TakerRefusal;
 use letter::Path;
+use std::alloc::{AllocError, Global};
 
-// Where a train and section stands: at the place of its path, or free, before the first later one.
-#[derive(Clone, Copy)]
-enum Spot {
-    Held(usize),
-    Free(usize),
+// The most paths that a book holds.
+const MOST: usize = 32;
+
+// Paths in ascending order, one at most for each train and section.
+#[derive(Drop)]
+pub(super) struct Paths {
+    items: Vec<Path>,
+    ghost few: { vec_len items ≤ 32 },
+    ghost room: { 32 ≤ vec_capacity items },
+    ghost ordered: { ascending items.items ≡ true },
 }
 
-// Whether the path comes before this train and section.
-fn is_earlier(p: &Path, train: u32, section: u16) -> bool
-    ensures { result ≡ earlier train section p.now }
-{
-    p.train < train || p.train == train && p.section < section
-}
-
-// Whether the path is of this train and section.
-fn is_same(p: &Path, train: u32, section: u16) -> bool
-    ensures { result ≡ same train section p.now }
-{
-    p.train == train && p.section == section
-}
-
-// Path i of these, from 0; none past the last.
-pub(super) fn path_at(paths: &[Path], i: usize) -> Option<Path>
-    ensures { PathAt paths.now i result }
-{
-    if i < paths.len() {
-        return Some(paths[i]);
+impl Paths {
+    // No paths. All the memory that they ever use is taken here.
+    pub(super) fn new(heap: Global) -> Result<Paths, AllocError>
+        ensures { IfOk result (λ p. p.items.items ≡ []) }
+    {
+        let items = Vec::with_capacity(heap, MOST)?;
+        Ok(Paths { items })
     }
-    None
-}
 
-fn find(paths: &[Path], train: u32, section: u16) -> Spot
-    ensures value { result ≡ spot_of train section paths.now }
-    ensures within { Within result (length paths.now) }
-{
-    for (i, p) in paths.iter().enumerate() {
-        if !is_earlier(p, train, section) {
-            if is_same(p, train, section) {
-                return Spot::Held(i);
+    pub(super) fn as_slice(&self) -> &[Path]
+        ensures { result.now ≡ self.now.items.items }
+    {
+        &self.items
+    }
+
+    // Puts the path in its place, over the path of its train and section if that is held.
+    // Refuses where it is not held and 32 others are.
+    pub(super) fn put(&mut self, p: Path) -> Result<(), TakerRefusal>
+        ensures value { is_ok result ≡ has_place p self.old.items.items }
+        ensures items { self.new.items.items ≡ put_paths p self.old.items.items }
+    {
+        match self.find(p.train, p.section) {
+            Ok(i) => {
+                self.items[i] = p;
+                Ok(())
             }
-            return Spot::Free(i);
-        }
-    }
-    Spot::Free(paths.len())
-}
-
-// Puts the path in its place, over the path of its train and section if that is held.
-// Refuses where it is not held and 32 others are.
-pub(super) fn put_path(paths: &mut Vec<Path>, p: Path) -> Result<(), TakerRefusal>
-    requires few { vec_len paths.old ≤ 32 }
-    requires room { 32 ≤ vec_capacity paths.old }
-    requires ordered { ascending paths.old.items ≡ true }
-    ensures value { is_ok result ≡ has_place p paths.old.items }
-    ensures items { paths.new.items ≡ put_paths p paths.old.items }
-    ensures few_after { vec_len paths.new ≤ 32 }
-    ensures room_after { 32 ≤ vec_capacity paths.new }
-{
-    match find(paths, p.train, p.section) {
-        Spot::Held(i) => {
-            paths[i] = p;
-            Ok(())
-        }
-        Spot::Free(i) => {
-            if paths.len() >= MOST {
-                return Err(TakerRefusal::NoPage);
+            Err(i) => {
+                if self.items.len() >= MOST {
+                    return Err(TakerRefusal::NoPage);
+                }
+                self.items.insert(i, p).unwrap();
+                Ok(())
             }
-            let _ = paths.insert(i, p);
-            Ok(())
         }
+    }
+
+    // Takes the path of this train and section away, if it is held.
+    pub(super) fn remove(&mut self, train: u32, section: u16)
+        ensures { self.new.items.items ≡ without train section self.old.items.items }
+    {
+        if let Ok(i) = self.find(train, section) {
+            self.items.remove(i);
+        }
+    }
+
+    // Where the path of this train and section stands; else where it would.
+    fn find(&self, train: u32, section: u16) -> Result<usize, usize>
+        ensures value { result ≡ spot_of train section self.now.items.items }
+        ensures within { IsSearchInRange result (length self.now.items.items) }
+    {
+        self.items.binary_search_by_key(&(train, section), key)
     }
 }
 
-// Takes the path of this train and section away, if it is held.
-pub(super) fn remove_path(paths: &mut Vec<Path>, train: u32, section: u16)
-    requires ordered { ascending paths.old.items ≡ true }
-    ensures items { paths.new.items ≡ without train section paths.old.items }
-    ensures len { vec_len paths.new ≤ vec_len paths.old }
-    ensures capacity { vec_capacity paths.new ≡ vec_capacity paths.old }
+// By what paths are ordered and told apart.
+fn key(p: &Path) -> (u32, u16)
+    ensures { result ≡ (p.now.train, p.now.section) }
 {
-    if let Spot::Held(i) = find(paths, train, section) {
-        let _ = paths.remove(i);
-    }
+    (p.train, p.section)
 }

@@ -21,10 +21,7 @@ impl Journal {
     pub fn number(&self, i: usize) -> Option<u8>
         ensures { result ≡ number_at (journal_page self.now) i }
     {
-        if i < self.numbers.len() {
-            return Some(self.numbers[i]);
-        }
-        None
+        self.numbers.get(i).copied()
     }
 
     // Adds the letter's length and its bytes.

@@ -5,5 +5,5 @@ use Rattle.taker.proofs.book.Book.spoil.Goals as goal
 
 pub returns : goal.returns
 returns c =
-    ap (λ n. Some (page_of n (vec_items c.args.self.now.paths))) c.one_more-self.ensures ∙
-    sym (step_is c.args.self.now.spoilt (vec_items c.args.self.now.paths) None)
+    ap (λ n. Some (page_of n (vec_items c.args.self.now.paths.items))) c.one_more-self.ensures ∙
+    sym (step_is c.args.self.now.spoilt (vec_items c.args.self.now.paths.items) None)

@@ -7,13 +7,13 @@ pub returns : goal.returns
 returns c =
     let before = c.args.self.now in
     let after = c.follow.new.self in
-    let few : length (vec_items before.paths) ≤ 32 = omega (arith, before.paths.ok.0, before.few) in
-    let few_after : length (vec_items after.paths) ≤ 32 = omega (arith, after.paths.ok.0, after.few) in
+    let few : length (vec_items before.paths.items) ≤ 32 = omega (arith, before.paths.items.ok.0, before.paths.few) in
+    let few_after : length (vec_items after.paths.items) ≤ 32 = omega (arith, after.paths.items.ok.0, after.paths.few) in
     record {
       step = c.follow.ensures;
       laws =
-          taken before.spoilt (vec_items before.paths) c.args.letter.now before.ordered few
+          taken before.spoilt (vec_items before.paths.items) c.args.letter.now before.paths.ordered few
           c.follow.result _ c.follow.ensures;
-      ordered = ordered after.spoilt (vec_items after.paths) after.ordered few_after;
+      ordered = ordered after.spoilt (vec_items after.paths.items) after.paths.ordered few_after;
       runs = holds_last_word;
     }
