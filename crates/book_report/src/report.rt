@@ -11,7 +11,7 @@ pub fn run(rt: &HostRuntime) -> anyhow::Result<()> {
     for line in BufReader::new(rt.alloc(), rt.stdin())?.split(rt.alloc(), b'\n') {
         let line = line?;
         let text = line.as_slice().trim_ascii();
-        if text.is_empty() || text[0] == b'#' {
+        if matches!(text, [] | [b'#', ..]) {
             continue;
         }
         let outcome = handle(rt.alloc(), &mut book, text)?;
@@ -25,11 +25,8 @@ pub fn run(rt: &HostRuntime) -> anyhow::Result<()> {
 fn show(rt: &HostRuntime, book: &Book) -> anyhow::Result<()> {
     let count = book.count();
     println!(rt; "spoilt {count}")?;
-    for i in 0..32 {
-        let Some(path) = book.path(i) else {
-            break;
-        };
-        let line = PathLine(path);
+    for path in book.paths() {
+        let line = PathLine(*path);
         println!(rt; "{line}")?;
     }
     Ok(())

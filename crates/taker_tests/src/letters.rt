@@ -4,9 +4,9 @@ use std::test::Fail;
 #[test]
 fn one_to_forty_eight_bytes(rt: HostRuntime) {
     let bytes = [7; 49];
-    assert!(rt; Letter::new(&bytes[0..0]).is_none());
-    assert!(rt; Letter::new(&bytes[0..1]).is_some());
-    assert!(rt; Letter::new(&bytes[0..48]).is_some());
+    assert!(rt; Letter::new(&bytes[..0]).is_none());
+    assert!(rt; Letter::new(&bytes[..1]).is_some());
+    assert!(rt; Letter::new(&bytes[..48]).is_some());
     assert!(rt; Letter::new(&bytes).is_none());
 }
 
@@ -30,8 +30,5 @@ fn withdrawals_out_of_range(rt: HostRuntime) {
 }
 
 fn refused(train: u32, section: u32) -> bool {
-    match withdrawal(train, section) {
-        Ok(_) => false,
-        Err(why) => why == LetterRefusal::Spoilt,
-    }
+    withdrawal(train, section).err() == Some(LetterRefusal::Spoilt)
 }
