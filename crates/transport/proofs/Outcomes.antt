@@ -45,7 +45,12 @@ got_refused depth {before} {after} {memory} {memory'} MemorySize e h =
 got_refused depth {before} {after} {memory} {memory'} FrameSize e h =
     absurd (subst (λ (x : GetAnswer). Got depth before memory x after memory') e h)
 
--- the first n bytes of the memory are the frame; `&memory[0..n]` is `take (n - 0)`
+-- the first n bytes of the memory are the frame
+pub took_front : {depth n : ℕ} {before after : Frames} {memory memory' : Bytes}
+    (t : Took depth before memory n after memory') → take n memory' ≡ t.frame
+took_front {n = n} t = ap (take n) t.written ∙ take_at t.frame _ n t.long
+
+-- the same of `&memory[0..n]`, which is `take (n - 0)`
 pub took_bytes : {depth n : ℕ} {before after : Frames} {memory memory' : Bytes}
     (t : Took depth before memory n after memory') → take (n - 0) memory' ≡ t.frame
-took_bytes {n = n} t = rw sub-zero (ap (take n) t.written ∙ take_at t.frame _ n t.long)
+took_bytes t = rw sub-zero (took_front t)

@@ -13,7 +13,7 @@ fn frame_sizes<T: Transport>(rt: &impl Abort, t: &mut T) {
     puts(rt, t, &[6; 800]);
     let mut memory = [7u8; 800];
     assert!(rt; t.get(&mut memory) == Ok(Some(800)));
-    assert!(rt; memory[0] == 6 && memory[799] == 6);
+    assert!(rt; memory == [6; 800]);
 }
 
 // Gets into 799, 800 and 801 bytes.
@@ -26,7 +26,7 @@ fn memory_sizes<T: Transport>(rt: &impl Abort, t: &mut T) {
     puts(rt, t, b"bc");
     let mut memory = [7u8; 801];
     assert!(rt; t.get(&mut memory) == Ok(Some(2)));
-    assert!(rt; memory[1] == b'c' && memory[2] == 7 && memory[800] == 7);
+    assert!(rt; memory.starts_with(b"bc") && memory[2..] == [7; 799]);
 }
 
 #[test]

@@ -10,13 +10,13 @@ pub fn puts<T: Transport>(rt: &impl Abort, t: &mut T, frame: &[u8]) {
 pub fn gets<T: Transport>(rt: &impl Abort, t: &mut T, want: u8) {
     let mut memory = [7u8; 800];
     assert!(rt; t.get(&mut memory) == Ok(Some(1)));
-    assert!(rt; memory[0] == want && memory[1] == 7 && memory[799] == 7);
+    assert!(rt; memory[0] == want && memory[1..] == [7; 799]);
 }
 
 pub fn gets_none<T: Transport>(rt: &impl Abort, t: &mut T) {
     let mut memory = [7u8; 800];
     assert!(rt; t.get(&mut memory) == Ok(None));
-    assert!(rt; memory[0] == 7);
+    assert!(rt; memory == [7; 800]);
 }
 
 // A put of these bytes is refused.
@@ -28,5 +28,5 @@ pub fn put_refused<T: Transport>(rt: &impl Abort, t: &mut T, frame: &[u8]) {
 pub fn get_refused<T: Transport>(rt: &impl Abort, t: &mut T) {
     let mut memory = [7u8; 799];
     assert!(rt; t.get(&mut memory) == Err(TransportRefusal::MemorySize));
-    assert!(rt; memory[0] == 7);
+    assert!(rt; memory == [7; 799]);
 }

@@ -5,7 +5,6 @@ ghost use Rattle.transport.specs.HeldSized.{held_sized};
 
 use super::Bag;
 use crate::kept::Kept;
-use crate::kept::hand_out::hand_out;
 use crate::refusal::TransportRefusal;
 use crate::transport::Transport;
 use circular_buffer::HeapCircularBuffer;
@@ -50,7 +49,7 @@ impl Transport for Bag {
         Ok(())
     }
 
-    #[tactic(auto, using(crate::proofs::Holds::newest_held, crate::proofs::Holds::rest_held, crate::proofs::Holds::newest_waits,))]
+    #[tactic(auto, using(crate::proofs::Holds::newest_is))]
     fn get(&mut self, memory: &mut [u8]) -> Result<Option<usize>, TransportRefusal>
         ensures answer { result ≡
             get_answer (newest (in_bag self.old)) memory.old }
@@ -61,7 +60,7 @@ impl Transport for Bag {
         ensures takes { takes_next self.new ≡
             bag_takes (takes_next self.old) (in_bag self.old) memory.old }
     {
-        let n = hand_out(self.frames.back(), memory)?;
+        let n = Kept::hand_out(self.frames.back(), memory)?;
         if n.is_some() {
             if self.takes {
                 self.frames.pop_back();

@@ -5,7 +5,6 @@ ghost use Rattle.transport.specs.HeldSized.{held_sized};
 
 use super::Mailbox;
 use crate::kept::Kept;
-use crate::kept::hand_out::hand_out;
 use crate::refusal::TransportRefusal;
 use crate::transport::Transport;
 use circular_buffer::HeapCircularBuffer;
@@ -54,7 +53,7 @@ impl Transport for Mailbox {
         ensures memory { memory.new ≡
             get_memory (oldest (in_mailbox self.old)) memory.old }
     {
-        let n = hand_out(self.frames.front(), memory)?;
+        let n = Kept::hand_out(self.frames.front(), memory)?;
         self.frames.pop_front();
         Ok(n)
     }

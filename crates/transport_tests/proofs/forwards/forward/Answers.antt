@@ -1,6 +1,6 @@
 use Rattle.std.proofs.Common.{Ok, sym, ap, ◌∙◌, subst, rules}
 use Rattle.transport.specs.Meaning.{Sized}
-use Rattle.transport.proofs.Outcomes.{put_added, put_refused, got_took, took_bytes}
+use Rattle.transport.proofs.Outcomes.{put_added, put_refused, got_took, took_front}
 use Rattle.transport_tests.proofs.Moved.{moved}
 use Rattle.transport_tests.proofs.forwards.forward.Goals as goal
 
@@ -20,7 +20,7 @@ returns-in_err-put-in-Some g c =
     let s = g.met.A.Transport.sized _ _ t.waited in
     let r = put_refused g.B.Transport.depth {r = c.put.result} c.in_err-put-in-Some.field-0.0
     c.in_err-put-in-Some.was c.put.ensures in
-    absurd (r.unsized (subst Sized (sym (took_bytes t)) s))
+    absurd (r.unsized (subst Sized (sym (took_front t)) s))
 
 pub returns-in_ok-put-in-Some : goal.returns-in_ok-put-in-Some
 returns-in_ok-put-in-Some g c =
