@@ -45,6 +45,7 @@ impl Transport for Bag {
             bag_put (in_bag self.old) frame.now }
         ensures takes { takes_next self.new ≡ takes_next self.old }
     {
+        // Where 8 wait the oldest gives way.
         self.frames.push_back(Kept::try_from(frame)?);
         Ok(())
     }

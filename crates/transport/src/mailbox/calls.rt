@@ -41,6 +41,7 @@ impl Transport for Mailbox {
         ensures waiting { in_mailbox self.new ≡
             mailbox_put (in_mailbox self.old) frame.now }
     {
+        // Where 32 wait there is no room, and the frame is lost.
         let _lost = self.frames.try_push_back(Kept::try_from(frame)?);
         Ok(())
     }
