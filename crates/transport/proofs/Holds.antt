@@ -29,7 +29,8 @@ rest_held items =
 pub newest_waits : (waiting : Frames)
     → is_some (long (newest waiting)) ≡ nat_lt 0 (length waiting)
 newest_waits [] = refl
-newest_waits (f ∷ fs) = rw (slice_get-get_or (f ∷ fs) (length (f ∷ fs) - 1) f (omega arith)) (grind (arith, nat_tests))
+newest_waits (f ∷ fs) =
+    rw (slice_get-get_or (f ∷ fs) (length (f ∷ fs) - 1) f (omega arith)) (grind (arith, nat_tests))
 
 -- what a get of the newest frame goes by
 pub ruleset newest_is = (newest_held, rest_held, newest_waits)
