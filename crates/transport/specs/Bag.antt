@@ -9,7 +9,7 @@ use Rattle.transport.specs.Stored.{held}
 
 -- the frames that wait in a bag, oldest first
 abbrev pub in_bag : Bag → Frames
-in_bag b = held b.frames
+in_bag b = held b.frames.items
 
 -- whether the next get that finds a frame takes it off
 abbrev pub takes_next : Bag → Bool

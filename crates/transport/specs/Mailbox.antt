@@ -9,7 +9,7 @@ use Rattle.transport.specs.Stored.{held}
 
 -- the frames that wait in a mailbox, oldest first
 abbrev pub in_mailbox : Mailbox → Frames
-in_mailbox m = held m.frames
+in_mailbox m = held m.frames.items
 
 -- the frame that a get hands out
 abbrev pub oldest : Frames → Option Bytes

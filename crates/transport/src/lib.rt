@@ -2,15 +2,13 @@
 #![tactic(auto)]
 
 mod bag;
+mod kept;
 mod mailbox;
 mod refusal;
-mod ring;
-mod sizes;
-mod slot;
 mod transport;
 
 pub use bag::Bag;
+pub use kept::FRAME_MOST;
 pub use mailbox::Mailbox;
 pub use refusal::TransportRefusal;
-pub use sizes::FRAME_MOST;
 pub use transport::Transport;

@@ -14,7 +14,7 @@ pub fn forward<A: Transport, B: Transport>(
     let mut memory = [0u8; FRAME_MOST];
     match from.get(&mut memory)? {
         Some(n) => {
-            to.put(&memory[0..n])?;
+            to.put(&memory[..n])?;
             Ok(true)
         }
         None => Ok(false),

@@ -13,7 +13,7 @@ fn layers(rt: HostRuntime) -> Result<(), Fail> {
     from.put(b"ab")?;
     assert!(rt; forward(&mut from, &mut to) == Ok(true));
     assert!(rt; to.get(&mut memory) == Ok(Some(2)));
-    assert!(rt; memory[0] == b'a' && memory[1] == b'b');
+    assert!(rt; memory.starts_with(b"ab"));
     assert!(rt; to.get(&mut memory) == Ok(None));
     assert_eq!(rt; Through::<Through<Mailbox>>::depth(), 32);
     Ok(())

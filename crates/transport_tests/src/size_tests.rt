@@ -1,48 +1,48 @@
-use crate::steps::*;
+use crate::steps::Tested;
 use std::process::Abort;
 use std::test::Fail;
 use transport::{Bag, Mailbox, Transport, TransportRefusal};
 
 // Puts of 0, 1, 800 and 801 bytes.
-fn frame_sizes<T: Transport>(rt: &impl Abort, t: &mut T) {
-    put_refused(rt, t, &[]);
-    put_refused(rt, t, &[5; 801]);
-    gets_none(rt, t);
-    puts(rt, t, &[5]);
-    gets(rt, t, 5);
-    puts(rt, t, &[6; 800]);
+fn frame_sizes<A: Abort, T: Transport>(t: &mut Tested<'_, A, T>) {
+    t.put_refused(&[]);
+    t.put_refused(&[5; 801]);
+    t.gets_none();
+    t.puts(&[5]);
+    t.gets(5);
+    t.puts(&[6; 800]);
     let mut memory = [7u8; 800];
-    assert!(rt; t.get(&mut memory) == Ok(Some(800)));
-    assert!(rt; memory[0] == 6 && memory[799] == 6);
+    assert!(t.rt; t.transport.get(&mut memory) == Ok(Some(800)));
+    assert!(t.rt; memory == [6; 800]);
 }
 
 // Gets into 799, 800 and 801 bytes.
-fn memory_sizes<T: Transport>(rt: &impl Abort, t: &mut T) {
-    get_refused(rt, t);
-    gets_none(rt, t);
-    puts(rt, t, b"a");
-    get_refused(rt, t);
-    gets(rt, t, b'a');
-    puts(rt, t, b"bc");
+fn memory_sizes<A: Abort, T: Transport>(t: &mut Tested<'_, A, T>) {
+    t.get_refused();
+    t.gets_none();
+    t.puts(b"a");
+    t.get_refused();
+    t.gets(b'a');
+    t.puts(b"bc");
     let mut memory = [7u8; 801];
-    assert!(rt; t.get(&mut memory) == Ok(Some(2)));
-    assert!(rt; memory[1] == b'c' && memory[2] == 7 && memory[800] == 7);
+    assert!(t.rt; t.transport.get(&mut memory) == Ok(Some(2)));
+    assert!(t.rt; memory.starts_with(b"bc") && memory[2..] == [7; 799]);
 }
 
 #[test]
 fn mailbox_sizes(rt: HostRuntime) -> Result<(), Fail> {
-    let mut m = Mailbox::new(rt.alloc())?;
-    frame_sizes(&rt, &mut m);
-    memory_sizes(&rt, &mut m);
+    let mut m = Tested::new(&rt, Mailbox::new(rt.alloc())?);
+    frame_sizes(&mut m);
+    memory_sizes(&mut m);
     Ok(())
 }
 
 #[test]
 fn bag_sizes(rt: HostRuntime) -> Result<(), Fail> {
-    let mut b = Bag::new(rt.alloc())?;
-    memory_sizes(&rt, &mut b);
-    let mut b = Bag::new(rt.alloc())?;
-    frame_sizes(&rt, &mut b);
+    let mut b = Tested::new(&rt, Bag::new(rt.alloc())?);
+    memory_sizes(&mut b);
+    let mut b = Tested::new(&rt, Bag::new(rt.alloc())?);
+    frame_sizes(&mut b);
     Ok(())
 }
 

@@ -4,13 +4,13 @@ ghost use Rattle.transport.specs.Calls.{put_answer, get_answer, get_memory};
 ghost use Rattle.transport.specs.HeldSized.{held_sized};
 
 use super::Bag;
+use crate::kept::Kept;
 use crate::refusal::TransportRefusal;
-use crate::ring::Ring;
-use crate::sizes::{is_enough, is_frame};
 use crate::transport::Transport;
+use circular_buffer::HeapCircularBuffer;
 use std::alloc::{AllocError, Global};
 
-// How many frames it has slots for, and how many of them it keeps in order.
+// How many frames it keeps, and how many of them in order.
 const SIZE: usize = 8;
 
 const DEPTH: u32 = 0;
@@ -20,7 +20,7 @@ impl Bag {
     pub fn new(heap: Global) -> Result<Bag, AllocError>
         ensures { IfOk result (λ b. (in_bag b ≡ []) × (takes_next b ≡ false)) }
     {
-        let frames = Ring::new(heap, SIZE)?;
+        let frames = HeapCircularBuffer::with_capacity(heap, SIZE)?;
         Ok(Bag {
             frames,
             takes: false,
@@ -33,7 +33,7 @@ impl Transport for Bag {
 
     ghost depth = { 0 };
 
-    ghost sized = { λ t frame h. held_sized t.frames frame h };
+    ghost sized = { λ t frame h. held_sized t.frames.items frame h };
 
     fn depth() -> u32 {
         DEPTH
@@ -45,16 +45,12 @@ impl Transport for Bag {
             bag_put (in_bag self.old) frame.now }
         ensures takes { takes_next self.new ≡ takes_next self.old }
     {
-        if !is_frame(frame) {
-            return Err(TransportRefusal::FrameSize);
-        }
-        if self.frames.len() == SIZE {
-            self.frames.drop_oldest();
-        }
-        self.frames.push(frame);
+        // Where 8 wait the oldest gives way.
+        self.frames.push_back(Kept::try_from(frame)?);
         Ok(())
     }
 
+    #[tactic(auto, using(crate::proofs::Holds::newest_is))]
     fn get(&mut self, memory: &mut [u8]) -> Result<Option<usize>, TransportRefusal>
         ensures answer { result ≡
             get_answer (newest (in_bag self.old)) memory.old }
@@ -65,15 +61,11 @@ impl Transport for Bag {
         ensures takes { takes_next self.new ≡
             bag_takes (takes_next self.old) (in_bag self.old) memory.old }
     {
-        if !is_enough(memory) {
-            return Err(TransportRefusal::MemorySize);
-        }
-        let count = self.frames.len();
-        let n = self.frames.load(count.saturating_sub(1), memory);
-        if self.takes {
-            self.frames.drop_newest();
-        }
-        if count > 0 {
+        let n = Kept::hand_out(self.frames.back(), memory)?;
+        if n.is_some() {
+            if self.takes {
+                self.frames.pop_back();
+            }
             self.takes = !self.takes;
         }
         Ok(n)

@@ -4,13 +4,13 @@ ghost use Rattle.transport.specs.Mailbox.{in_mailbox, oldest, mailbox_put, mailb
 ghost use Rattle.transport.specs.HeldSized.{held_sized};
 
 use super::Mailbox;
+use crate::kept::Kept;
 use crate::refusal::TransportRefusal;
-use crate::ring::Ring;
-use crate::sizes::{is_enough, is_frame};
 use crate::transport::Transport;
+use circular_buffer::HeapCircularBuffer;
 use std::alloc::{AllocError, Global};
 
-// How many frames it has slots for, and keeps in order.
+// How many frames it keeps, all in order.
 const SIZE: usize = 32;
 
 const DEPTH: u32 = 32;
@@ -20,7 +20,7 @@ impl Mailbox {
     pub fn new(heap: Global) -> Result<Mailbox, AllocError>
         ensures { IfOk result (λ m. in_mailbox m ≡ []) }
     {
-        let frames = Ring::new(heap, SIZE)?;
+        let frames = HeapCircularBuffer::with_capacity(heap, SIZE)?;
         Ok(Mailbox { frames })
     }
 }
@@ -30,7 +30,7 @@ impl Transport for Mailbox {
 
     ghost depth = { 32 };
 
-    ghost sized = { λ t frame h. held_sized t.frames frame h };
+    ghost sized = { λ t frame h. held_sized t.frames.items frame h };
 
     fn depth() -> u32 {
         DEPTH
@@ -41,12 +41,8 @@ impl Transport for Mailbox {
         ensures waiting { in_mailbox self.new ≡
             mailbox_put (in_mailbox self.old) frame.now }
     {
-        if !is_frame(frame) {
-            return Err(TransportRefusal::FrameSize);
-        }
-        if self.frames.len() < SIZE {
-            self.frames.push(frame);
-        }
+        // Where 32 wait there is no room, and the frame is lost.
+        let _lost = self.frames.try_push_back(Kept::try_from(frame)?);
         Ok(())
     }
 
@@ -58,11 +54,8 @@ impl Transport for Mailbox {
         ensures memory { memory.new ≡
             get_memory (oldest (in_mailbox self.old)) memory.old }
     {
-        if !is_enough(memory) {
-            return Err(TransportRefusal::MemorySize);
-        }
-        let n = self.frames.load(0, memory);
-        self.frames.drop_oldest();
+        let n = Kept::hand_out(self.frames.front(), memory)?;
+        self.frames.pop_front();
         Ok(n)
     }
 }
