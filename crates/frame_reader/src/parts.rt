@@ -63,6 +63,7 @@ impl<'a> Reader<'a> {
     }
 
     // The range that comes next, and what comes after it.
+    #[tactic(auto, using(crate::proofs::Steps::end_read, crate::proofs::Steps::other_tag, crate::proofs::Steps::no_range))]
     fn range(&self) -> Option<(Range, &'a [u8])>
         ensures { NextRange self.now.rest.now result }
     {

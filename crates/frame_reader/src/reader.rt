@@ -36,6 +36,7 @@ impl<'a> Reader<'a> {
     }
 
     // Whether nothing is left.
+    #[tactic(auto, using(crate::proofs::Steps::told_end))]
     pub(crate) fn at_end(&self) -> bool
         ensures { AtEnd self.now result }
     {
@@ -43,6 +44,7 @@ impl<'a> Reader<'a> {
     }
 
     // The next piece, and what comes after it.
+    #[tactic(auto, using(crate::proofs::Steps::cuts))]
     pub(crate) fn piece(&self) -> Option<Lexed<'a>>
         ensures { MatchOption result (length self.now.rest.now ≡ 0) (First self.now.rest.now) }
     {
@@ -50,6 +52,7 @@ impl<'a> Reader<'a> {
     }
 
     // What comes behind the tag, if the tag comes next.
+    #[tactic(auto, using(crate::proofs::Steps::tag_missing, crate::proofs::Steps::tag_told))]
     fn behind(&self, tag: Tag) -> Option<&'a [u8]>
         ensures { MatchOption result ((g h : Tree) → onward self.now (tagged tag g h) ≡ onward self.now h)
             (λ rest. (g h : Tree) → onward self.now (tagged tag g h) ≡ walk self.now.whole g rest.now) }

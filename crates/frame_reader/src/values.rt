@@ -74,6 +74,7 @@ impl Spelt for FaultCode {
 
 impl<'a> Reader<'a> {
     // The value of the text that comes next, and what comes after it.
+    #[tactic(auto, using(crate::proofs::Steps::end_read, crate::proofs::Steps::no_text_next))]
     fn next<T: Spelt>(&self) -> Option<(T, &'a [u8])>
         ensures { Next T.kind T.held self.now.rest.now result }
     {
@@ -85,14 +86,16 @@ impl<'a> Reader<'a> {
     }
 
     // The value of the text that has to come next.
+    #[tactic(auto, using(crate::proofs::Steps::on_read, grammar::proofs::Walks::walk_none))]
     pub(crate) fn text<T: Spelt>(&mut self) -> Result<T, ReadFault>
         ensures { Leads T.held (one T.kind) self.old self.new result }
     {
         let Some(found) = self.next() else {
             return Err(self.fault());
         };
-        self.rest = found.1;
-        Ok(found.0)
+        let (value, rest) = found;
+        self.rest = rest;
+        Ok(value)
     }
 
     // A value in its element.
@@ -106,6 +109,7 @@ impl<'a> Reader<'a> {
     }
 
     // The text of this identifier, which has to come next.
+    #[tactic(auto, using(crate::proofs::Steps::again_on, crate::proofs::Steps::again_off, crate::proofs::Steps::on_read, grammar::proofs::Walks::walk_none))]
     fn again_text(&mut self, identifier: Identifier) -> Result<(), ReadFault>
         ensures { Leads (λ _. tt) (one (kind.again identifier.value)) self.old self.new result }
     {
