@@ -30,13 +30,13 @@ use Rattle.pieces.proofs.Options.{cases_option, then_some, then_none}
 use Rattle.pieces.proofs.Readings.{identifier_is, is_identifier}
 use Rattle.pieces.proofs.Strips.{not_same}
 use Rattle.pieces.proofs.TokenTags.{told_tag, range_shaped}
-use Rattle.grammar.specs.Grammar.{Part, tagged, one, more_ranges, final_part, detail_part}
+use Rattle.grammar.specs.Grammar.{tagged, one, within, identifier_part, more_ranges, final_part, detail_part}
 use Rattle.grammar.specs.Kinds.{Kind, Value, reader, identifier, again, number, range_behind, letter, fault_code}
 use Rattle.grammar.specs.Kinds as kind
 use Rattle.grammar.specs.Trees.{Tree, stop, whole, reads, walk}
 use Rattle.grammar.proofs.KindLaws.{reader_is, reader_end}
 use Rattle.grammar.proofs.Walks.{walk_stop, walk_read, walk_none, walk_here, walk_beyond}
-use Rattle.frame_reader.specs.Reading.{onward, Textual, AtEnd, Leads, Takes, TookRange, NoRange, About, PassesDetail, code_of}
+use Rattle.frame_reader.specs.Reading.{onward, Textual, AtEnd, Takes, TookRange, NoRange}
 use Rattle.frame_reader.specs.declared.reader.Reader.{Reader}
 
 -- a piece of the kind is next, or none
@@ -61,18 +61,13 @@ module _ (t : Tag) (end : ℕ) (bs : List ℕ) where
   same_tag : (x : Lexed) → First bs x → is_tag x.token t ≡ bytes_eq (piece bs) (tag_text t)
   same_tag x f = told_tag x.token t (f.shaped ∙ ap shape (sym f.part)) ∙ ap (λ p. bytes_eq p (tag_text t)) f.part
 
-  abbrev pub Behind : Option (Bor (List ℕ)) → Type 0
-  Behind r =
-      MatchOption r ((g h : Tree) → walk end (tagged t g h) bs ≡ walk end h bs)
-      (λ rest. (g h : Tree) → walk end (tagged t g h) bs ≡ walk end g rest.now)
-
-  pub tag_missing : length bs ≡ 0 → Behind None
-  tag_missing e g h = at_end (kind.tag t) end bs e (λ _. g) h
-
-  pub tag_told : (x : Lexed) → First bs x → (b : Bool) → b ≡ is_tag x.token t → Behind (kept b x.rest)
+  pub tag_on : (x : Lexed) → First bs x → true ≡ is_tag x.token t → (g h : Tree) → walk end (tagged t g h) bs ≡ walk end g x.rest.now
   unfolding reader
-  tag_told x f true e = λ g h. on_read (kind.tag t) tt end bs x.rest.now (cond-true _ _ _ (sym (same_tag x f) ∙ sym e)) f.rest (λ _. g) h
-  tag_told x f false e = λ g h. walk_none end bs (kind.tag t) (λ _. g) h (cond-false _ _ _ (sym (same_tag x f) ∙ sym e))
+  tag_on x f e g h = on_read (kind.tag t) tt end bs x.rest.now (cond-true _ _ _ (sym (same_tag x f) ∙ sym e)) f.rest (λ _. g) h
+
+  pub tag_off : (x : Lexed) → First bs x → false ≡ is_tag x.token t → (g h : Tree) → walk end (tagged t g h) bs ≡ walk end h bs
+  unfolding reader
+  tag_off x f e g h = walk_none end bs (kind.tag t) (λ _. g) h (cond-false _ _ _ (sym (same_tag x f) ∙ sym e))
 
 -- texts
 no_pairs : (q : List ℕ) → read_pairs [] (60 ∷ q) ≡ None
@@ -228,19 +223,13 @@ pub takes_final : (a b : Reader) (r : Bool) → Takes (tag.Empty element.Final) 
 takes_final a b true t k = t (k true) (k false)
 takes_final a b false t k = t (k true) (k false)
 
-passed_detail : (a b : Reader) (m : FaultMeaning) → PassesDetail a b m → (k : FaultMeaning → Tree)
-    → onward a (detail_part (code_of m) k) ≡ onward b (k m)
-passed_detail a b (unknown_sequence n) t k = t (λ n. k (unknown_sequence n))
-passed_detail a b (sequence_terminated n) t k = t (λ n. k (sequence_terminated n))
-passed_detail a b (sequence_closed n) t k = t (λ n. k (sequence_closed n))
-passed_detail a b create_sequence_refused t k = t (k create_sequence_refused)
+-- what a fault of this name is about
+module _ (a b : Reader) (c : FaultCode) (n : ℕ) (t : (k : ℕ → Tree) → onward a (within element.Detail identifier_part k) ≡ onward b (k n)) where
+  pub unknown_read : c ≡ code.UnknownSequence → (k : FaultMeaning → Tree) → onward a (detail_part c k) ≡ onward b (k (unknown_sequence n))
+  unknown_read e k = ap (λ c. onward a (detail_part c k)) e ∙ t (λ n. k (unknown_sequence n))
 
--- the name of a fault, and then what it is about
-pub fault_read : (part : Part FaultCode) (a b d : Reader) (c : FaultCode) (r : Result Fault ReadFault)
-    → ((k : FaultCode → Tree) → onward a (part k) ≡ onward b (k c)) → About c b d r
-    → Leads fault_meaning (λ k. part (λ c. detail_part c k)) a d r
-fault_read part a b d c (Ok f) p t = λ k. p (λ c. detail_part c k) ∙ (ap (λ c. onward b (detail_part c k)) t.0 ∙ passed_detail b d (fault_meaning f) t.1 k)
-fault_read part a b d code.UnknownSequence (Err e) p t = λ k. p (λ c. detail_part c k) ∙ t.1 (λ n. k (unknown_sequence n))
-fault_read part a b d code.SequenceTerminated (Err e) p t = λ k. p (λ c. detail_part c k) ∙ t.1 (λ n. k (sequence_terminated n))
-fault_read part a b d code.SequenceClosed (Err e) p t = λ k. p (λ c. detail_part c k) ∙ t.1 (λ n. k (sequence_closed n))
-fault_read part a b d code.CreateSequenceRefused (Err e) p t = absurd (t.0 refl)
+  pub terminated_read : c ≡ code.SequenceTerminated → (k : FaultMeaning → Tree) → onward a (detail_part c k) ≡ onward b (k (sequence_terminated n))
+  terminated_read e k = ap (λ c. onward a (detail_part c k)) e ∙ t (λ n. k (sequence_terminated n))
+
+  pub closed_read : c ≡ code.SequenceClosed → (k : FaultMeaning → Tree) → onward a (detail_part c k) ≡ onward b (k (sequence_closed n))
+  closed_read e k = ap (λ c. onward a (detail_part c k)) e ∙ t (λ n. k (sequence_closed n))

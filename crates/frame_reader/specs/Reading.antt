@@ -1,19 +1,15 @@
 -- What the reading functions answer. Only `Reads` is for others: a frame is read exactly from its text,
 -- and everything else is refused at its place.
-use Rattle.std.specs.Prelude.{◌≡◌, ◌≢◌, ℕ, ◌+◌, ◌-◌, ◌<◌, Bool, true, false, List, [], ◌∷◌, ◌++◌, length, Some, None, Ok, Err, Option, Result, MatchOption, MatchResult}
+use Rattle.std.specs.Prelude.{◌≡◌, ℕ, ◌+◌, ◌-◌, ◌<◌, Bool, true, false, List, [], ◌∷◌, ◌++◌, length, Some, None, Ok, Err, Option, Result, MatchOption, MatchResult}
 use Rattle.std.specs.Borrow.{Bor}
-use Rattle.frame.specs.Meanings.{Meaning, meaning, Proper, FaultMeaning, unknown_sequence, sequence_terminated, sequence_closed, create_sequence_refused, fault_meaning}
-use Rattle.frame.specs.declared.fault.Fault.{Fault}
+use Rattle.frame.specs.Meanings.{Meaning, meaning, Proper}
 use Rattle.frame.specs.declared.frame.Frame.{Frame}
 use Rattle.frame.specs.declared.range.Range.{Range}
 use Rattle.pieces.specs.Attributes.{range_read}
 use Rattle.pieces.specs.Cuts.{piece, after}
 use Rattle.pieces.specs.declared.fault.ReadFault.{ReadFault}
 use Rattle.pieces.specs.declared.token.Tag.{Tag}
-use Rattle.pieces.specs.declared.names.Element.TheVariants as element
-use Rattle.pieces.specs.declared.names.FaultCode.{FaultCode}
-use Rattle.pieces.specs.declared.names.FaultCode.TheVariants as code
-use Rattle.grammar.specs.Grammar.{Part, tagged, identifier_part, within}
+use Rattle.grammar.specs.Grammar.{Part, tagged}
 use Rattle.grammar.specs.Kinds.{Kind, Value, reader, identifier, again, number, range_behind, letter, fault_code}
 use Rattle.grammar.specs.Kinds as kind
 use Rattle.grammar.specs.Places.{RefusedAt}
@@ -77,27 +73,6 @@ abbrev pub NextRange : List ℕ → Option (Range × Bor (List ℕ)) → Type 0
 NextRange bs r =
     MatchOption r ((rs : List Range) → reader (range_behind rs) (piece bs) ≡ None)
     (λ x. (range_read (piece bs) ≡ Some x.0) × (x.1.now ≡ after bs))
-
--- the name under which a fault goes
-abbrev pub code_of : FaultMeaning → FaultCode
-code_of (unknown_sequence n) = code.UnknownSequence
-code_of (sequence_terminated n) = code.SequenceTerminated
-code_of (sequence_closed n) = code.SequenceClosed
-code_of create_sequence_refused = code.CreateSequenceRefused
-
--- the way goes on behind the detail of the fault, if it has one
-abbrev pub PassesDetail : Reader → Reader → FaultMeaning → Type 0
-PassesDetail a b (unknown_sequence n) = (k : ℕ → Tree) → onward a (within element.Detail identifier_part k) ≡ onward b (k n)
-PassesDetail a b (sequence_terminated n) = (k : ℕ → Tree) → onward a (within element.Detail identifier_part k) ≡ onward b (k n)
-PassesDetail a b (sequence_closed n) = (k : ℕ → Tree) → onward a (within element.Detail identifier_part k) ≡ onward b (k n)
-PassesDetail a b create_sequence_refused = (g : Tree) → onward a g ≡ onward b g
-
--- a fault of the name c, and the way on behind its detail, or the place where that is wrong
-abbrev pub About : FaultCode → Reader → Reader → Result Fault ReadFault → Type 0
-About c a b r =
-    MatchResult r (λ f. (c ≡ code_of (fault_meaning f)) × PassesDetail a b (fault_meaning f))
-    (λ e. (c ≢ code.CreateSequenceRefused) ×
-    ((k : ℕ → Tree) → onward a (within element.Detail identifier_part k) ≡ Err e.place))
 
 -- the frame, or the place of the fault
 abbrev pub outcome : Result Frame ReadFault → Result Meaning ℕ

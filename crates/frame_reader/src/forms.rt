@@ -7,11 +7,11 @@ ghost use Rattle.frame.specs.declared.frame.Frame.{Frame};
 ghost use Rattle.frame.specs.declared.identifier.Identifier.{Identifier};
 ghost use Rattle.frame.specs.declared.number.Number.{Number};
 ghost use Rattle.frame_reader.specs.Reading.{outcome, onward, Reads};
-ghost use Rattle.grammar.specs.Grammar.{ends, only, response, naming_tree, ending_tree, after_final, after_receipt, receipt_tree, sequence_tree, fault_tree, grammar, reading};
+ghost use Rattle.grammar.specs.Grammar.{ends, only, response, naming_tree, ending_tree, credit_part, after_final, after_receipt, receipt_tree, sequence_tree, fault_tree, grammar, reading};
 ghost use Rattle.pieces.specs.declared.token.Tag.TheVariants as tag;
 
 use crate::reader::Reader;
-use frame::{Frame, Identifier, Number, Receipt};
+use frame::{Frame, Identifier, Number, Ranges, Receipt};
 use pieces::{Element, ReadFault, Tag};
 
 // The frame whose text the bytes are; else the place of the first piece that no form allows there.
@@ -124,27 +124,32 @@ impl Reader<'_> {
     }
 
     // A receipt, alone or with a response behind it.
+    #[tactic(auto, using(crate::proofs::Steps::takes_final))]
     fn receipt(&mut self) -> Result<Frame, ReadFault>
         ensures { outcome result ≡ onward self.old receipt_tree }
     {
         let identifier = self.identifier()?;
         let ranges = self.ranges()?;
-        let is_final = self.is_final();
-        let credit = self.credit()?;
-        self.after_receipt(
-            Receipt {
-                identifier,
-                ranges,
-                credit,
-            },
-            is_final,
-        )
+        let is_final = self.takes(Tag::Empty(Element::Final));
+        self.after_mark(identifier, ranges, is_final)
     }
 
-    fn after_receipt(&mut self, receipt: Receipt, is_final: bool) -> Result<Frame, ReadFault>
+    // The credit of a receipt, and what may come behind that.
+    fn after_mark(
+        &mut self,
+        identifier: Identifier,
+        ranges: Ranges,
+        is_final: bool,
+    ) -> Result<Frame, ReadFault>
         ensures { outcome result ≡ onward self.old
-            (after_receipt receipt.identifier.value (listed receipt.ranges) is_final receipt.credit.value) }
+            (credit_part (after_receipt identifier.value (listed ranges) is_final)) }
     {
+        let credit = self.credit()?;
+        let receipt = Receipt {
+            identifier,
+            ranges,
+            credit,
+        };
         if self.at_end() {
             return Ok(Frame::SequenceAcknowledgement { receipt, is_final });
         }

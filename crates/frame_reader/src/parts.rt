@@ -3,11 +3,10 @@ ghost use Rattle.std.specs.Prelude.{◌≡◌, [], ◌∷◌};
 ghost use Rattle.std.specs.Option.{option_map};
 ghost use Rattle.frame.specs.Listed.{listed};
 ghost use Rattle.frame.specs.Meanings.{fault_meaning};
-ghost use Rattle.frame_reader.specs.Reading.{About, Leads, NextRange, Takes, TakesRange};
-ghost use Rattle.grammar.specs.Grammar.{identifier_part, ranges_part, more_ranges, credit_part, last_part, fault_part, one, within};
+ghost use Rattle.frame_reader.specs.Reading.{Leads, NextRange, TakesRange};
+ghost use Rattle.grammar.specs.Grammar.{identifier_part, ranges_part, more_ranges, credit_part, last_part, detail_part, fault_part, one, within};
 ghost use Rattle.grammar.specs.Kinds.{range_behind};
 ghost use Rattle.pieces.specs.declared.names.Element.TheVariants as element;
-ghost use Rattle.pieces.specs.declared.token.Tag.TheVariants as tag;
 
 use crate::reader::Reader;
 use frame::{Fault, Identifier, Number, Range, Ranges};
@@ -51,6 +50,7 @@ impl<'a> Reader<'a> {
     }
 
     // One range or more.
+    #[tactic(auto, using(crate::proofs::Steps::first_off, crate::proofs::Steps::more_on))]
     fn some_ranges(&mut self) -> Result<Ranges, ReadFault>
         ensures { Leads listed (λ k. one (range_behind []) (λ x. more_ranges 4 (x ∷ []) k)) self.old self.new result }
     {
@@ -75,6 +75,7 @@ impl<'a> Reader<'a> {
     }
 
     // Takes a range that may stand behind these if it comes next, and answers whether it did.
+    #[tactic(auto, using(crate::proofs::Steps::range_off, crate::proofs::Steps::far_range))]
     fn takes_range(&mut self, ranges: &mut Ranges) -> bool
         ensures { TakesRange self.old self.new
             (listed ranges.old) (listed ranges.new) result }
@@ -89,23 +90,18 @@ impl<'a> Reader<'a> {
         true
     }
 
-    // Takes the mark of a final receipt if it comes next, and answers whether it did.
-    pub(crate) fn is_final(&mut self) -> bool
-        ensures { Takes (tag.Empty element.Final) self.old self.new result }
-    {
-        self.takes(Tag::Empty(Element::Final))
-    }
-
     pub(crate) fn sequence_fault(&mut self) -> Result<Fault, ReadFault>
         ensures { Leads fault_meaning fault_part self.old self.new result }
     {
         let code = self.within(Element::FaultCode)?;
-        self.about(code)
+        let fault = self.about(code)?;
+        Ok(fault)
     }
 
     // What a fault of this name is about.
+    #[tactic(auto, using(crate::proofs::Steps::unknown_read, crate::proofs::Steps::terminated_read, crate::proofs::Steps::closed_read))]
     fn about(&mut self, code: FaultCode) -> Result<Fault, ReadFault>
-        ensures { About code self.old self.new result }
+        ensures { Leads fault_meaning (detail_part code) self.old self.new result }
     {
         match code {
             FaultCode::UnknownSequence => Ok(Fault::UnknownSequence(self.detail()?)),

@@ -51,26 +51,17 @@ impl<'a> Reader<'a> {
         lex(self.whole, self.rest).ok()
     }
 
-    // What comes behind the tag, if the tag comes next.
-    #[tactic(auto, using(crate::proofs::Steps::tag_missing, crate::proofs::Steps::tag_told))]
-    fn behind(&self, tag: Tag) -> Option<&'a [u8]>
-        ensures { MatchOption result ((g h : Tree) → onward self.now (tagged tag g h) ≡ onward self.now h)
-            (λ rest. (g h : Tree) → onward self.now (tagged tag g h) ≡ walk self.now.whole g rest.now) }
-    {
-        let lexed = self.piece()?;
-        lexed.token.is_tag(tag).then_some(lexed.rest)
-    }
-
     // Takes the tag if it comes next, and answers whether it did.
+    #[tactic(auto, using(crate::proofs::Steps::tag_on, crate::proofs::Steps::tag_off, crate::proofs::Steps::at_end))]
     pub(crate) fn takes(&mut self, tag: Tag) -> bool
         ensures { Takes tag self.old self.new result }
     {
-        match self.behind(tag) {
-            Some(rest) => {
-                self.rest = rest;
+        match self.piece() {
+            Some(lexed) if lexed.token.is_tag(tag) => {
+                self.rest = lexed.rest;
                 true
             }
-            None => false,
+            _ => false,
         }
     }
 

@@ -1,24 +1,12 @@
-use Rattle.std.proofs.Common.{◌≡◌, true, [], ◌∷◌, ◌++◌, length, sym, refl, ap, ◌∙◌}
+use Rattle.std.proofs.Common.{◌≡◌, true, [], ◌∷◌, ◌++◌, length, sym, ap, ◌∙◌}
 use Rattle.std.proofs.lemmas.List.{length_push}
 use Rattle.frame.specs.Ascending.{follows}
 use Rattle.frame.specs.Listed.{listed}
 use Rattle.frame.proofs.Ascents.{follows_parts}
 use Rattle.grammar.specs.Kinds.{range_behind}
 use Rattle.grammar.specs.Trees.{walk}
-use Rattle.frame_reader.proofs.Steps.{on_read, range_off, far_range, near_range}
+use Rattle.frame_reader.proofs.Steps.{on_read, near_range}
 use Rattle.frame_reader.proofs.reader.Reader.takes_range.Goals as goal
-
-pub returns-in_default : goal.returns-in_default
-returns-in_default c = record {
-  way = λ k h. range_off _ _ (c.in_default.ensures (listed c.args.ranges.now)) _ _ h;
-  stays = λ h. refl;
-  same = refl;
-}
-
-pub returns-then-not-push : goal.returns-then-not-push
-returns-then-not-push c =
-    let none = far_range (listed c.args.ranges.now) c.args.self.now.rest.now c.in-Some.range c.in-Some.ensures.0 (sym c.if-not-push.ensures.done) in
-    record { way = λ k h. range_off _ _ none _ _ h; stays = λ h. refl; same = c.if-not-push.ensures.list }
 
 pub returns : goal.returns
 returns c =
