@@ -1,14 +1,12 @@
 -- The steps of the walk, as the reading functions take them.
 use Rattle.std.proofs.Common.{◌≡◌, ℕ, zero, suc, ◌+◌, ◌-◌, ◌<◌, Bool, true, false, cond, eqb, List, [], ◌∷◌, ◌++◌, length, get_or, take, Some, None, Ok, Err, decimal, Option, Result, MatchOption, sym, refl, ap, ◌∙◌, inl, inr, arith, Bor, eqb-true}
-use Rattle.std.specs.Bool.{then_some as kept}
 use Rattle.std.specs.Result.{result_ok}
 use Rattle.std.specs.Str.{bytes_eq}
 use Rattle.std.proofs.lemmas.Slice.Eq.{bytes_eq-Decides}
 use Rattle.std.proofs.lemmas.Bool.{cond-true, cond-false, cases_Bool, cases_lt, eqb-false}
 use Rattle.frame.specs.Ascending.{follows}
 use Rattle.frame.specs.Bounds.{IsIdentifier}
-use Rattle.frame.specs.Meanings.{Meaning, FaultMeaning, unknown_sequence, sequence_terminated, sequence_closed, create_sequence_refused, fault_meaning}
-use Rattle.frame.specs.declared.fault.Fault.{Fault}
+use Rattle.frame.specs.Meanings.{Meaning, FaultMeaning, unknown_sequence, sequence_terminated, sequence_closed}
 use Rattle.frame.specs.declared.range.Range.{Range}
 use Rattle.pieces.specs.Attributes.{range_read}
 use Rattle.pieces.specs.Cuts.{piece, after, piece_len, shape, words, empty}
@@ -35,7 +33,7 @@ use Rattle.grammar.specs.Kinds.{Kind, Value, reader, identifier, again, number, 
 use Rattle.grammar.specs.Kinds as kind
 use Rattle.grammar.specs.Trees.{Tree, stop, whole, reads, walk}
 use Rattle.grammar.proofs.KindLaws.{reader_is, reader_end}
-use Rattle.grammar.proofs.Walks.{walk_stop, walk_read, walk_none, walk_here, walk_beyond}
+use Rattle.grammar.proofs.Walks.{walk_read, walk_none, walk_here, walk_beyond}
 use Rattle.frame_reader.specs.Reading.{onward, Textual, AtEnd, Takes, TookRange, NoRange}
 use Rattle.frame_reader.specs.declared.reader.Reader.{Reader}
 
@@ -69,6 +67,8 @@ module _ (t : Tag) (end : ℕ) (bs : List ℕ) where
   unfolding reader
   tag_off x f e g h = walk_none end bs (kind.tag t) (λ _. g) h (cond-false _ _ _ (sym (same_tag x f) ∙ sym e))
 
+pub ruleset tag_steps = (tag_on, tag_off, at_end)
+
 -- texts
 no_pairs : (q : List ℕ) → read_pairs [] (60 ∷ q) ≡ None
 unfolding read_pairs
@@ -93,7 +93,7 @@ begins : (n b : ℕ) (bs : List ℕ) → 0 < n → (q : List ℕ) × (take n (b 
 begins zero b bs l = absurd (omega arith)
 begins (suc n) b bs l = (take n bs, refl)
 
-pub no_piece : (κ : Kind) → Textual κ → (bs : List ℕ) → (0 < length bs → get_or bs 0 0 ≡ 60) → reader κ (piece bs) ≡ None
+no_piece : (κ : Kind) → Textual κ → (bs : List ℕ) → (0 < length bs → get_or bs 0 0 ≡ 60) → reader κ (piece bs) ≡ None
 no_piece κ h [] n = reader_end κ
 no_piece κ h (b ∷ bs) n =
     let e : b ≡ 60 = n (omega arith) in
@@ -112,18 +112,18 @@ tag_first p h =
 
 -- a token by its shape
 words_text : (x : Token) → shape_of x ≡ words → (s : Bor (List ℕ)) × (x ≡ Text s)
-words_text (Open s) e = let z : ◌≡◌ {A = ℕ} 0 1 = cc in absurd (omega arith)
-words_text (Close s) e = let z : ◌≡◌ {A = ℕ} 0 1 = cc in absurd (omega arith)
-words_text (Empty s) e = let z : ◌≡◌ {A = ℕ} 0 1 = cc in absurd (omega arith)
+words_text (Open s) e = absurd cc
+words_text (Close s) e = absurd cc
+words_text (Empty s) e = absurd cc
 words_text (Text s) e = (s, refl)
 
 empty_tag : (x : Token) → shape_of x ≡ empty → (s : Bor (List ℕ)) × (x ≡ Empty s)
-empty_tag (Open s) e = let z : ◌≡◌ {A = ℕ} 0 1 = cc in absurd (omega arith)
-empty_tag (Close s) e = let z : ◌≡◌ {A = ℕ} 0 1 = cc in absurd (omega arith)
+empty_tag (Open s) e = absurd cc
+empty_tag (Close s) e = absurd cc
 empty_tag (Empty s) e = (s, refl)
-empty_tag (Text s) e = let z : ◌≡◌ {A = ℕ} 0 1 = cc in absurd (omega arith)
+empty_tag (Text s) e = absurd cc
 
-pub no_words : (bs : List ℕ) (x : Lexed) → First bs x → ((s : Bor (List ℕ)) → x.token ≡ Text s → ⊥) → get_or bs 0 0 ≡ 60
+no_words : (bs : List ℕ) (x : Lexed) → First bs x → ((s : Bor (List ℕ)) → x.token ≡ Text s → ⊥) → get_or bs 0 0 ≡ 60
 no_words bs x f n =
     front (piece_len bs) bs (tag_first (piece bs) (λ e. let t = words_text x.token (f.shaped ∙ e) in n t.0 t.1))
 
@@ -140,6 +140,10 @@ again_on n p e = cond-true _ _ _ ((bytes_eq-Decides p (urn ++ decimal n)).1 (ide
 pub again_off : (n : ℕ) (p : List ℕ) → IsIdentifier n → (reader identifier p ≡ Some n → ⊥) → reader (again n) p ≡ None
 unfolding reader
 again_off n p h f = cond-false _ _ _ (not_same p (urn ++ decimal n) (λ e. f (ap identifier_read e ∙ is_identifier n h)))
+
+pub ruleset text_steps = (on_read, walk_none)
+
+pub ruleset again_steps = (again_on, again_off, on_read, walk_none)
 
 -- ranges
 module _ (rs : List Range) (bs : List ℕ) where
@@ -167,6 +171,10 @@ module _ (rs : List Range) (bs : List ℕ) where
   pub near_range : (x : Range) → range_read (piece bs) ≡ Some x → follows rs x ≡ true → reader (range_behind rs) (piece bs) ≡ Some x
   unfolding reader
   near_range x e f = then_some _ _ x e ∙ cond-true _ _ _ f
+
+pub ruleset range_steps = (end_read, other_tag, no_range)
+
+pub ruleset no_range_steps = (range_off, far_range)
 
 -- the loop over ranges
 module _ (a b : Reader) (rs rs' : List Range) where
@@ -233,3 +241,5 @@ module _ (a b : Reader) (c : FaultCode) (n : ℕ) (t : (k : ℕ → Tree) → on
 
   pub closed_read : c ≡ code.SequenceClosed → (k : FaultMeaning → Tree) → onward a (detail_part c k) ≡ onward b (k (sequence_closed n))
   closed_read e k = ap (λ c. onward a (detail_part c k)) e ∙ t (λ n. k (sequence_closed n))
+
+pub ruleset detail_steps = (unknown_read, terminated_read, closed_read)

@@ -1,6 +1,6 @@
 -- What the reading functions answer. Only `Reads` is for others: a frame is read exactly from its text,
 -- and everything else is refused at its place.
-use Rattle.std.specs.Prelude.{◌≡◌, ℕ, ◌+◌, ◌-◌, ◌<◌, Bool, true, false, List, [], ◌∷◌, ◌++◌, length, Some, None, Ok, Err, Option, Result, MatchOption, MatchResult}
+use Rattle.std.specs.Prelude.{◌≡◌, ℕ, ◌+◌, ◌<◌, Bool, true, false, List, [], ◌∷◌, ◌++◌, length, Some, None, Ok, Err, Option, Result, MatchOption, MatchResult}
 use Rattle.std.specs.Borrow.{Bor}
 use Rattle.frame.specs.Meanings.{Meaning, meaning, Proper}
 use Rattle.frame.specs.declared.frame.Frame.{Frame}

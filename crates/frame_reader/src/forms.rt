@@ -23,7 +23,8 @@ pub fn read(bytes: &[u8]) -> Result<Frame, ReadFault>
 }
 
 impl Reader<'_> {
-    // The frame that is left.
+    // The frame that is left. Each form has a question of its own: a `match` would need the element of the tag, which a
+    // piece doesn't tell, and one more arm for the elements that begin no form.
     fn frame(&mut self) -> Result<Frame, ReadFault>
         ensures { outcome result ≡ onward self.old grammar }
     {
@@ -81,8 +82,12 @@ impl Reader<'_> {
         self.ended(frame)
     }
 
-    // A frame that is an identifier alone in its element.
-    fn naming<F: FnOnce(Identifier) -> Frame>(&mut self, element: Element, frame: F) -> Result<Frame, ReadFault>
+    // A frame that is an identifier alone in its element, as `frame` makes it.
+    fn naming<F: FnOnce(Identifier) -> Frame>(
+        &mut self,
+        element: Element,
+        frame: F,
+    ) -> Result<Frame, ReadFault>
         ghost make: { ℕ → Meaning }
         requires can { F.IsAlwaysCallable frame }
         requires makes { (i : Identifier) (f : Frame) → F.post frame i f → meaning f ≡ make i.value }
@@ -92,7 +97,7 @@ impl Reader<'_> {
         self.closed(element, frame(identifier))
     }
 
-    // A frame that is an identifier and, if it is there, the last message number.
+    // A frame that is an identifier and, if it is there, the last message number, as `frame` makes it.
     fn ending<F: FnOnce(Identifier, Option<Number>) -> Frame>(
         &mut self,
         element: Element,

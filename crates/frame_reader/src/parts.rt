@@ -63,7 +63,7 @@ impl<'a> Reader<'a> {
     }
 
     // The range that comes next, and what comes after it.
-    #[tactic(auto, using(crate::proofs::Steps::end_read, crate::proofs::Steps::other_tag, crate::proofs::Steps::no_range))]
+    #[tactic(auto, using(crate::proofs::Steps::range_steps))]
     fn range(&self) -> Option<(Range, &'a [u8])>
         ensures { NextRange self.now.rest.now result }
     {
@@ -75,7 +75,7 @@ impl<'a> Reader<'a> {
     }
 
     // Takes a range that may stand behind these if it comes next, and answers whether it did.
-    #[tactic(auto, using(crate::proofs::Steps::range_off, crate::proofs::Steps::far_range))]
+    #[tactic(auto, using(crate::proofs::Steps::no_range_steps))]
     fn takes_range(&mut self, ranges: &mut Ranges) -> bool
         ensures { TakesRange self.old self.new
             (listed ranges.old) (listed ranges.new) result }
@@ -99,7 +99,7 @@ impl<'a> Reader<'a> {
     }
 
     // What a fault of this name is about.
-    #[tactic(auto, using(crate::proofs::Steps::unknown_read, crate::proofs::Steps::terminated_read, crate::proofs::Steps::closed_read))]
+    #[tactic(auto, using(crate::proofs::Steps::detail_steps))]
     fn about(&mut self, code: FaultCode) -> Result<Fault, ReadFault>
         ensures { Leads fault_meaning (detail_part code) self.old self.new result }
     {

@@ -52,7 +52,7 @@ impl<'a> Reader<'a> {
     }
 
     // Takes the tag if it comes next, and answers whether it did.
-    #[tactic(auto, using(crate::proofs::Steps::tag_on, crate::proofs::Steps::tag_off, crate::proofs::Steps::at_end))]
+    #[tactic(auto, using(crate::proofs::Steps::tag_steps))]
     pub(crate) fn takes(&mut self, tag: Tag) -> bool
         ensures { Takes tag self.old self.new result }
     {

@@ -17,20 +17,25 @@ use pieces::{
 
 // A value that a text between two tags spells.
 pub(crate) trait Spelt: Copy {
+    // The kind of its text, as the grammar has it.
     ghost kind: { Kind };
-    // What a value holds, as the grammar has it.
+
+    // What a value holds of that.
     ghost held: { Self → Value kind };
 
     // The value whose text this is.
     fn read(text: &[u8]) -> Option<Self>
         ensures { option_map held result ≡ reader kind text.now };
 
+    // That no tag is of the kind.
     ghost textual: { Textual kind };
 }
 
 impl Spelt for Identifier {
     ghost kind = { kind.identifier };
+
     ghost held = { λ i. i.value };
+
     ghost textual = { tt };
 
     #[tactic(auto, unfolding(grammar::specs::Kinds::reader))]
@@ -41,7 +46,9 @@ impl Spelt for Identifier {
 
 impl Spelt for Number {
     ghost kind = { kind.number };
+
     ghost held = { λ n. n.value };
+
     ghost textual = { tt };
 
     #[tactic(auto, unfolding(grammar::specs::Kinds::reader))]
@@ -52,7 +59,9 @@ impl Spelt for Number {
 
 impl Spelt for Letter {
     ghost kind = { kind.letter };
+
     ghost held = { content };
+
     ghost textual = { tt };
 
     #[tactic(auto, unfolding(grammar::specs::Kinds::reader))]
@@ -63,7 +72,9 @@ impl Spelt for Letter {
 
 impl Spelt for FaultCode {
     ghost kind = { kind.fault_code };
+
     ghost held = { λ c. c };
+
     ghost textual = { tt };
 
     #[tactic(auto, unfolding(grammar::specs::Kinds::reader))]
@@ -86,7 +97,7 @@ impl<'a> Reader<'a> {
     }
 
     // The value of the text that has to come next.
-    #[tactic(auto, using(crate::proofs::Steps::on_read, grammar::proofs::Walks::walk_none))]
+    #[tactic(auto, using(crate::proofs::Steps::text_steps))]
     pub(crate) fn text<T: Spelt>(&mut self) -> Result<T, ReadFault>
         ensures { Leads T.held (one T.kind) self.old self.new result }
     {
@@ -98,7 +109,8 @@ impl<'a> Reader<'a> {
         Ok(value)
     }
 
-    // A value in its element.
+    // A value in its element. What stands between two tags and is no value alone, as in `again` and `detail`, has them
+    // written out: a function that takes the step between them as a closure has a contract longer than what it saves.
     pub(crate) fn within<T: Spelt>(&mut self, element: Element) -> Result<T, ReadFault>
         ensures { Leads T.held (within element (one T.kind)) self.old self.new result }
     {
@@ -109,7 +121,7 @@ impl<'a> Reader<'a> {
     }
 
     // The text of this identifier, which has to come next.
-    #[tactic(auto, using(crate::proofs::Steps::again_on, crate::proofs::Steps::again_off, crate::proofs::Steps::on_read, grammar::proofs::Walks::walk_none))]
+    #[tactic(auto, using(crate::proofs::Steps::again_steps))]
     fn again_text(&mut self, identifier: Identifier) -> Result<(), ReadFault>
         ensures { Leads (λ _. tt) (one (kind.again identifier.value)) self.old self.new result }
     {
