@@ -46,9 +46,6 @@ pub end_read : (κ : Kind) (bs : List ℕ) → length bs ≡ 0 → reader κ (pi
 end_read κ [] e = reader_end κ
 end_read κ (b ∷ bs) e = absurd (omega arith)
 
-pub at_end : (κ : Kind) (end : ℕ) (bs : List ℕ) → length bs ≡ 0 → (k : Value κ → Tree) (h : Tree) → walk end (reads κ k h) bs ≡ walk end h bs
-at_end κ end bs e k h = walk_none end bs κ k h (end_read κ bs e)
-
 -- cutting
 pub cuts : (end : ℕ) (bs : List ℕ) (r : Result Lexed ReadFault) → Lexes end bs r → MatchOption (result_ok r) (length bs ≡ 0) (First bs)
 cuts end bs (Ok x) f = f
@@ -67,7 +64,7 @@ module _ (t : Tag) (end : ℕ) (bs : List ℕ) where
   unfolding reader
   tag_off x f e g h = walk_none end bs (kind.tag t) (λ _. g) h (cond-false _ _ _ (sym (same_tag x f) ∙ sym e))
 
-pub ruleset tag_steps = (tag_on, tag_off, at_end)
+pub ruleset tag_steps = (tag_on, tag_off, walk_none, end_read)
 
 -- texts
 no_pairs : (q : List ℕ) → read_pairs [] (60 ∷ q) ≡ None
@@ -157,9 +154,6 @@ module _ (rs : List Range) (bs : List ℕ) where
             absurd (n t.0 t.1)
       ]
 
-  pub range_off : reader (range_behind rs) (piece bs) ≡ None → (end : ℕ) (k : Range → Tree) (h : Tree) → walk end (reads (range_behind rs) k h) bs ≡ walk end h bs
-  range_off e end k h = walk_none end bs (range_behind rs) k h e
-
   pub no_range : range_read (piece bs) ≡ None → reader (range_behind rs) (piece bs) ≡ None
   unfolding reader
   no_range e = then_none _ _ e
@@ -174,7 +168,7 @@ module _ (rs : List Range) (bs : List ℕ) where
 
 pub ruleset range_steps = (end_read, other_tag, no_range)
 
-pub ruleset no_range_steps = (range_off, far_range)
+pub ruleset no_range_steps = (walk_none, far_range)
 
 -- the loop over ranges
 module _ (a b : Reader) (rs rs' : List Range) where

@@ -109,8 +109,8 @@ impl<'a> Reader<'a> {
         Ok(value)
     }
 
-    // A value in its element. What stands between two tags and is no value alone, as in `again` and `detail`, has them
-    // written out: a function that takes the step between them as a closure has a contract longer than what it saves.
+    // A value in its element. `again` and `detail` write their two tags out: a function over the step between them would
+    // have to speak of every type that such a step may hold, and no clause can range over types.
     pub(crate) fn within<T: Spelt>(&mut self, element: Element) -> Result<T, ReadFault>
         ensures { Leads T.held (within element (one T.kind)) self.old self.new result }
     {
