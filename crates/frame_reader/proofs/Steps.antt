@@ -1,21 +1,24 @@
 -- The steps of the walk, as the reading functions take them.
-use Rattle.std.proofs.Common.{◌≡◌, ℕ, zero, suc, ◌+◌, ◌-◌, ◌<◌, Bool, true, false, cond, eqb, List, [], ◌∷◌, ◌++◌, length, get_or, take, Some, None, Ok, Err, decimal, Option, sym, refl, ap, ◌∙◌, inl, inr, arith, Bor, eqb-true}
+use Rattle.std.proofs.Common.{◌≡◌, ℕ, zero, suc, ◌+◌, ◌-◌, ◌<◌, Bool, true, false, cond, eqb, List, [], ◌∷◌, ◌++◌, length, get_or, take, Some, None, Ok, Err, decimal, Option, Result, MatchOption, sym, refl, ap, ◌∙◌, inl, inr, arith, Bor, eqb-true}
+use Rattle.std.specs.Result.{result_ok}
 use Rattle.std.specs.Str.{bytes_eq}
 use Rattle.std.proofs.lemmas.Slice.Eq.{bytes_eq-Decides}
-use Rattle.std.proofs.lemmas.Bool.{cond-true, cond-false, cases_Bool, cases_lt}
+use Rattle.std.proofs.lemmas.Bool.{cond-true, cond-false, cases_Bool, cases_lt, eqb-false}
 use Rattle.frame.specs.Ascending.{follows}
 use Rattle.frame.specs.Bounds.{IsIdentifier}
-use Rattle.frame.specs.Meanings.{Meaning, sequence_acknowledgement}
+use Rattle.frame.specs.Meanings.{Meaning, FaultMeaning, unknown_sequence, sequence_terminated, sequence_closed}
 use Rattle.frame.specs.declared.range.Range.{Range}
 use Rattle.pieces.specs.Attributes.{range_read}
 use Rattle.pieces.specs.Cuts.{piece, after, piece_len, shape, words, empty}
 use Rattle.pieces.specs.Hex.{read_pairs}
 use Rattle.pieces.specs.Strips.{strip_of}
 use Rattle.pieces.specs.Tags.{tag_text}
-use Rattle.pieces.specs.Tokens.{shape_of, is_tag, First}
+use Rattle.pieces.specs.Tokens.{shape_of, is_tag, First, Lexes}
 use Rattle.pieces.specs.Values.{urn, identifier_read}
 use Rattle.pieces.specs.declared.fault.ReadFault.{ReadFault}
 use Rattle.pieces.specs.declared.names.Element.TheVariants as element
+use Rattle.pieces.specs.declared.names.FaultCode.{FaultCode}
+use Rattle.pieces.specs.declared.names.FaultCode.TheVariants as code
 use Rattle.pieces.specs.declared.token.Lexed.{Lexed}
 use Rattle.pieces.specs.declared.token.Tag.{Tag}
 use Rattle.pieces.specs.declared.token.Tag.TheVariants as tag
@@ -25,51 +28,45 @@ use Rattle.pieces.proofs.Options.{cases_option, then_some, then_none}
 use Rattle.pieces.proofs.Readings.{identifier_is, is_identifier}
 use Rattle.pieces.proofs.Strips.{not_same}
 use Rattle.pieces.proofs.TokenTags.{told_tag, range_shaped}
-use Rattle.grammar.specs.Grammar.{tagged, one, more_ranges, final_part, after_final, after_receipt}
+use Rattle.grammar.specs.Grammar.{tagged, one, within, identifier_part, more_ranges, final_part, detail_part}
 use Rattle.grammar.specs.Kinds.{Kind, Value, reader, identifier, again, number, range_behind, letter, fault_code}
 use Rattle.grammar.specs.Kinds as kind
 use Rattle.grammar.specs.Trees.{Tree, stop, whole, reads, walk}
 use Rattle.grammar.proofs.KindLaws.{reader_is, reader_end}
-use Rattle.grammar.proofs.Walks.{walk_stop, walk_read, walk_none, walk_here, walk_beyond}
-use Rattle.frame_reader.specs.Reading.{onward, Takes, TookRange, NoRange, IsText, NoText}
+use Rattle.grammar.proofs.Walks.{walk_read, walk_none, walk_here, walk_beyond}
+use Rattle.frame_reader.specs.Reading.{onward, Textual, AtEnd, Takes, TookRange, NoRange}
 use Rattle.frame_reader.specs.declared.reader.Reader.{Reader}
-use Rattle.frame_reader.specs.declared.reader.Words.{Words}
 
 -- a piece of the kind is next, or none
 pub on_read : (κ : Kind) (a : Value κ) (end : ℕ) (bs rest : List ℕ) → reader κ (piece bs) ≡ Some a → rest ≡ after bs
     → (k : Value κ → Tree) (h : Tree) → walk end (reads κ k h) bs ≡ walk end (k a) rest
 on_read κ a end bs rest e f k h = walk_read end bs κ a k h e ∙ ap (walk end (k a)) (sym f)
 
-end_read : (κ : Kind) (bs : List ℕ) → length bs ≡ 0 → reader κ (piece bs) ≡ None
+pub end_read : (κ : Kind) (bs : List ℕ) → length bs ≡ 0 → reader κ (piece bs) ≡ None
 end_read κ [] e = reader_end κ
 end_read κ (b ∷ bs) e = absurd (omega arith)
 
-pub at_end : (κ : Kind) (end : ℕ) (bs : List ℕ) → length bs ≡ 0 → (k : Value κ → Tree) (h : Tree) → walk end (reads κ k h) bs ≡ walk end h bs
-at_end κ end bs e k h = walk_none end bs κ k h (end_read κ bs e)
+-- cutting
+pub cuts : (end : ℕ) (bs : List ℕ) (r : Result Lexed ReadFault) → Lexes end bs r → MatchOption (result_ok r) (length bs ≡ 0) (First bs)
+cuts end bs (Ok x) f = f
+cuts end bs (Err e) f = f.none
 
 -- tags
-module _ (t : Tag) (bs : List ℕ) (x : Lexed) (f : First bs x) where
-  same_tag : is_tag x.token t ≡ bytes_eq (piece bs) (tag_text t)
-  same_tag = told_tag x.token t (f.shaped ∙ ap shape (sym f.part)) ∙ ap (λ p. bytes_eq p (tag_text t)) f.part
+module _ (t : Tag) (end : ℕ) (bs : List ℕ) where
+  same_tag : (x : Lexed) → First bs x → is_tag x.token t ≡ bytes_eq (piece bs) (tag_text t)
+  same_tag x f = told_tag x.token t (f.shaped ∙ ap shape (sym f.part)) ∙ ap (λ p. bytes_eq p (tag_text t)) f.part
 
-  pub tag_on : true ≡ is_tag x.token t → (end : ℕ) (g h : Tree) → walk end (tagged t g h) bs ≡ walk end g x.rest.now
+  pub tag_on : (x : Lexed) → First bs x → true ≡ is_tag x.token t → (g h : Tree) → walk end (tagged t g h) bs ≡ walk end g x.rest.now
   unfolding reader
-  tag_on e end g h = on_read (kind.tag t) tt end bs x.rest.now (cond-true _ _ _ (sym same_tag ∙ sym e)) f.rest (λ _. g) h
+  tag_on x f e g h = on_read (kind.tag t) tt end bs x.rest.now (cond-true _ _ _ (sym (same_tag x f) ∙ sym e)) f.rest (λ _. g) h
 
-  pub tag_off : false ≡ is_tag x.token t → (end : ℕ) (g h : Tree) → walk end (tagged t g h) bs ≡ walk end h bs
+  pub tag_off : (x : Lexed) → First bs x → false ≡ is_tag x.token t → (g h : Tree) → walk end (tagged t g h) bs ≡ walk end h bs
   unfolding reader
-  tag_off e end g h = walk_none end bs (kind.tag t) (λ _. g) h (cond-false _ _ _ (sym same_tag ∙ sym e))
+  tag_off x f e g h = walk_none end bs (kind.tag t) (λ _. g) h (cond-false _ _ _ (sym (same_tag x f) ∙ sym e))
+
+pub ruleset tag_steps = (tag_on, tag_off, walk_none, end_read)
 
 -- texts
-abbrev pub Textual : Kind → Type 0
-Textual (kind.tag t) = ⊥
-Textual identifier = Unit {0}
-Textual (again n) = Unit {0}
-Textual number = Unit {0}
-Textual (range_behind rs) = ⊥
-Textual letter = Unit {0}
-Textual fault_code = Unit {0}
-
 no_pairs : (q : List ℕ) → read_pairs [] (60 ∷ q) ≡ None
 unfolding read_pairs
 no_pairs [] = refl
@@ -112,44 +109,38 @@ tag_first p h =
 
 -- a token by its shape
 words_text : (x : Token) → shape_of x ≡ words → (s : Bor (List ℕ)) × (x ≡ Text s)
-words_text (Open s) e = let z : ◌≡◌ {A = ℕ} 0 1 = cc in absurd (omega arith)
-words_text (Close s) e = let z : ◌≡◌ {A = ℕ} 0 1 = cc in absurd (omega arith)
-words_text (Empty s) e = let z : ◌≡◌ {A = ℕ} 0 1 = cc in absurd (omega arith)
+words_text (Open s) e = absurd cc
+words_text (Close s) e = absurd cc
+words_text (Empty s) e = absurd cc
 words_text (Text s) e = (s, refl)
 
 empty_tag : (x : Token) → shape_of x ≡ empty → (s : Bor (List ℕ)) × (x ≡ Empty s)
-empty_tag (Open s) e = let z : ◌≡◌ {A = ℕ} 0 1 = cc in absurd (omega arith)
-empty_tag (Close s) e = let z : ◌≡◌ {A = ℕ} 0 1 = cc in absurd (omega arith)
+empty_tag (Open s) e = absurd cc
+empty_tag (Close s) e = absurd cc
 empty_tag (Empty s) e = (s, refl)
-empty_tag (Text s) e = let z : ◌≡◌ {A = ℕ} 0 1 = cc in absurd (omega arith)
+empty_tag (Text s) e = absurd cc
 
-pub no_words : (bs : List ℕ) (x : Lexed) → First bs x → ((s : Bor (List ℕ)) → x.token ≡ Text s → ⊥) → get_or bs 0 0 ≡ 60
+no_words : (bs : List ℕ) (x : Lexed) → First bs x → ((s : Bor (List ℕ)) → x.token ≡ Text s → ⊥) → get_or bs 0 0 ≡ 60
 no_words bs x f n =
     front (piece_len bs) bs (tag_first (piece bs) (λ e. let t = words_text x.token (f.shaped ∙ e) in n t.0 t.1))
 
-module _ (κ : Kind) (end : ℕ) (bs : List ℕ) where
-  pub text_on : (v : Value κ) (w : Words) → IsText bs w → reader κ w.text.now ≡ Some v
-      → (k : Value κ → Tree) → walk end (one κ k) bs ≡ walk end (k v) w.rest.now
-  text_on v w t e k = on_read κ v end bs w.rest.now (ap (reader κ) (sym t.text) ∙ e) t.rest k stop
-
-  off_read : (place : ℕ) → reader κ (piece bs) ≡ None → place ≡ end - length bs → (k : Value κ → Tree) → walk end (one κ k) bs ≡ Err place
-  off_read place e p k = walk_none end bs κ k stop e ∙ (walk_stop end bs ∙ ap Err (sym p))
-
-  pub text_off : (w : Words) (place : ℕ) → IsText bs w → reader κ w.text.now ≡ None → place ≡ end - length bs
-      → (k : Value κ → Tree) → walk end (one κ k) bs ≡ Err place
-  text_off w place t e p k = off_read place (ap (reader κ) (sym t.text) ∙ e) p k
-
-  pub text_missing : (h : Textual κ) (e : ReadFault) → NoText end bs e → (k : Value κ → Tree) → walk end (one κ k) bs ≡ Err e.place
-  text_missing h e n k = off_read e.place (no_piece κ h bs n.tag) n.place k
+-- what is no text is of no textual kind
+pub no_text_next : (κ : Kind) → Textual κ → (bs : List ℕ) (x : Lexed) → First bs x → ((s : Bor (List ℕ)) → x.token ≡ Text s → ⊥)
+    → reader κ (piece bs) ≡ None
+no_text_next κ h bs x f n = no_piece κ h bs (λ l. no_words bs x f n)
 
 -- an identifier once more
-pub again_on : (n : ℕ) (p : List ℕ) → identifier_read p ≡ Some n → reader (again n) p ≡ Some tt
+pub again_on : (n : ℕ) (p : List ℕ) → reader identifier p ≡ Some n → reader (again n) p ≡ Some tt
 unfolding reader
 again_on n p e = cond-true _ _ _ ((bytes_eq-Decides p (urn ++ decimal n)).1 (identifier_is n p e).0)
 
-pub again_off : (n : ℕ) (p : List ℕ) → IsIdentifier n → (identifier_read p ≡ Some n → ⊥) → reader (again n) p ≡ None
+pub again_off : (n : ℕ) (p : List ℕ) → IsIdentifier n → (reader identifier p ≡ Some n → ⊥) → reader (again n) p ≡ None
 unfolding reader
 again_off n p h f = cond-false _ _ _ (not_same p (urn ++ decimal n) (λ e. f (ap identifier_read e ∙ is_identifier n h)))
+
+pub ruleset text_steps = (on_read, walk_none)
+
+pub ruleset again_steps = (again_on, again_off, on_read, walk_none)
 
 -- ranges
 module _ (rs : List Range) (bs : List ℕ) where
@@ -163,9 +154,6 @@ module _ (rs : List Range) (bs : List ℕ) where
             absurd (n t.0 t.1)
       ]
 
-  pub range_off : reader (range_behind rs) (piece bs) ≡ None → (end : ℕ) (k : Range → Tree) (h : Tree) → walk end (reads (range_behind rs) k h) bs ≡ walk end h bs
-  range_off e end k h = walk_none end bs (range_behind rs) k h e
-
   pub no_range : range_read (piece bs) ≡ None → reader (range_behind rs) (piece bs) ≡ None
   unfolding reader
   no_range e = then_none _ _ e
@@ -177,6 +165,10 @@ module _ (rs : List Range) (bs : List ℕ) where
   pub near_range : (x : Range) → range_read (piece bs) ≡ Some x → follows rs x ≡ true → reader (range_behind rs) (piece bs) ≡ Some x
   unfolding reader
   near_range x e f = then_some _ _ x e ∙ cond-true _ _ _ f
+
+pub ruleset range_steps = (end_read, other_tag, no_range)
+
+pub ruleset no_range_steps = (walk_none, far_range)
 
 -- the loop over ranges
 module _ (a b : Reader) (rs rs' : List Range) where
@@ -210,33 +202,38 @@ module _ (a b : Reader) (rs rs' : List Range) where
       ap (λ ys. onward a (reads (range_behind ys) (λ x. more_ranges 4 (ys ++ (x ∷ [])) k) stop)) (sym e) ∙
       (t.way (λ ys. more_ranges 4 ys k) stop ∙ ap (λ i. onward b (more_ranges i rs' k)) n)
 
-  pub first_off : rs ≡ [] → NoRange a b rs rs' → (k : List Range → Tree)
-      → onward a (one (range_behind []) (λ x. more_ranges 4 (x ∷ []) k)) ≡ Err (b.whole - length b.rest.now)
-  first_off e t k =
+  pub first_off : rs ≡ [] → NoRange a b rs rs' → (place : ℕ) → onward b stop ≡ Err place → (k : List Range → Tree)
+      → onward a (one (range_behind []) (λ x. more_ranges 4 (x ∷ []) k)) ≡ Err place
+  first_off e t place p k =
       ap (λ ys. onward a (reads (range_behind ys) (λ x. more_ranges 4 (ys ++ (x ∷ [])) k) stop)) (sym e) ∙
-      (t.way (λ ys. more_ranges 4 ys k) stop ∙ walk_stop b.whole b.rest.now)
+      (t.way (λ ys. more_ranges 4 ys k) stop ∙ p)
 
 -- nothing is left, or something
-pub walk_whole : (end : ℕ) (bs : List ℕ) (m : Meaning) (g : Tree) → length bs ≡ 0 → walk end (whole m g) bs ≡ Ok m
-walk_whole end [] m g e = walk_here end m g
-walk_whole end (b ∷ bs) m g e = absurd (omega arith)
+whole_end : (end : ℕ) (bs : List ℕ) (m : Meaning) (g : Tree) → length bs ≡ 0 → walk end (whole m g) bs ≡ Ok m
+whole_end end [] m g e = walk_here end m g
+whole_end end (b ∷ bs) m g e = absurd (omega arith)
 
-pub walk_more : (end : ℕ) (bs : List ℕ) (m : Meaning) (g : Tree) → (length bs ≡ 0 → ⊥) → walk end (whole m g) bs ≡ walk end g bs
-walk_more end [] m g e = absurd (e refl)
-walk_more end (b ∷ bs) m g e = walk_beyond end (b ∷ bs) m g (omega arith)
+more : {n : ℕ} → (n ≡ 0 → ⊥) → 0 < n
+more h = omega (arith, h)
+
+pub told_end : (a : Reader) (b : Bool) → b ≡ eqb (length a.rest.now) 0 → AtEnd a b
+told_end a true e = λ m g. whole_end a.whole a.rest.now m g (eqb-true _ 0 (sym e))
+told_end a false e = λ m g. walk_beyond a.whole a.rest.now m g (more (eqb-false _ 0 (sym e)))
 
 -- a receipt, final or not
 pub takes_final : (a b : Reader) (r : Bool) → Takes (tag.Empty element.Final) a b r → (k : Bool → Tree) → onward a (final_part k) ≡ onward b (k r)
 takes_final a b true t k = t (k true) (k false)
 takes_final a b false t k = t (k true) (k false)
 
-module _ (end : ℕ) (bs : List ℕ) (n : ℕ) (rs : List Range) (c : ℕ) where
-  pub receipt_whole : (final : Bool) → length bs ≡ 0 → walk end (after_receipt n rs final c) bs ≡ Ok (sequence_acknowledgement n rs final c)
-  receipt_whole true e = walk_whole end bs (sequence_acknowledgement n rs true c) (after_final n rs c) e
-  receipt_whole false e = walk_whole end bs (sequence_acknowledgement n rs false c) stop e
+-- what a fault of this name is about
+module _ (a b : Reader) (c : FaultCode) (n : ℕ) (t : (k : ℕ → Tree) → onward a (within element.Detail identifier_part k) ≡ onward b (k n)) where
+  pub unknown_read : c ≡ code.UnknownSequence → (k : FaultMeaning → Tree) → onward a (detail_part c k) ≡ onward b (k (unknown_sequence n))
+  unknown_read e k = ap (λ c. onward a (detail_part c k)) e ∙ t (λ n. k (unknown_sequence n))
 
-  pub receipt_more : (length bs ≡ 0 → ⊥) → walk end (after_receipt n rs true c) bs ≡ walk end (after_final n rs c) bs
-  receipt_more e = walk_more end bs (sequence_acknowledgement n rs true c) (after_final n rs c) e
+  pub terminated_read : c ≡ code.SequenceTerminated → (k : FaultMeaning → Tree) → onward a (detail_part c k) ≡ onward b (k (sequence_terminated n))
+  terminated_read e k = ap (λ c. onward a (detail_part c k)) e ∙ t (λ n. k (sequence_terminated n))
 
-  pub receipt_ends : (length bs ≡ 0 → ⊥) → walk end (after_receipt n rs false c) bs ≡ Err (end - length bs)
-  receipt_ends e = walk_more end bs (sequence_acknowledgement n rs false c) stop e ∙ walk_stop end bs
+  pub closed_read : c ≡ code.SequenceClosed → (k : FaultMeaning → Tree) → onward a (detail_part c k) ≡ onward b (k (sequence_closed n))
+  closed_read e k = ap (λ c. onward a (detail_part c k)) e ∙ t (λ n. k (sequence_closed n))
+
+pub ruleset detail_steps = (unknown_read, terminated_read, closed_read)

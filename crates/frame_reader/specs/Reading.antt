@@ -1,19 +1,21 @@
 -- What the reading functions answer. Only `Reads` is for others: a frame is read exactly from its text,
 -- and everything else is refused at its place.
-use Rattle.std.specs.Prelude.{◌≡◌, ℕ, ◌+◌, ◌-◌, ◌<◌, Bool, true, false, List, [], ◌∷◌, ◌++◌, length, Ok, Err, Result, MatchResult, slice_index}
+use Rattle.std.specs.Prelude.{◌≡◌, ℕ, ◌+◌, ◌<◌, Bool, true, false, List, [], ◌∷◌, ◌++◌, length, Some, None, Ok, Err, Option, Result, MatchOption, MatchResult}
+use Rattle.std.specs.Borrow.{Bor}
 use Rattle.frame.specs.Meanings.{Meaning, meaning, Proper}
 use Rattle.frame.specs.declared.frame.Frame.{Frame}
 use Rattle.frame.specs.declared.range.Range.{Range}
+use Rattle.pieces.specs.Attributes.{range_read}
 use Rattle.pieces.specs.Cuts.{piece, after}
 use Rattle.pieces.specs.declared.fault.ReadFault.{ReadFault}
 use Rattle.pieces.specs.declared.token.Tag.{Tag}
 use Rattle.grammar.specs.Grammar.{Part, tagged}
-use Rattle.grammar.specs.Kinds.{range_behind}
+use Rattle.grammar.specs.Kinds.{Kind, Value, reader, identifier, again, number, range_behind, letter, fault_code}
+use Rattle.grammar.specs.Kinds as kind
 use Rattle.grammar.specs.Places.{RefusedAt}
 use Rattle.grammar.specs.Texts.{text}
-use Rattle.grammar.specs.Trees.{Tree, reads, walk}
+use Rattle.grammar.specs.Trees.{Tree, whole, reads, walk}
 use Rattle.frame_reader.specs.declared.reader.Reader.{Reader}
-use Rattle.frame_reader.specs.declared.reader.Words.{Words}
 
 -- where the rest leads in the tree
 abbrev pub onward : Reader → Tree → Result Meaning ℕ
@@ -35,6 +37,11 @@ abbrev pub Takes : Tag → Reader → Reader → Bool → Type 0
 Takes t a b true = (g h : Tree) → onward a (tagged t g h) ≡ onward b g
 Takes t a b false = (g h : Tree) → onward a (tagged t g h) ≡ onward b h
 
+-- nothing is left, or something
+abbrev pub AtEnd : Reader → Bool → Type 0
+AtEnd a true = (m : Meaning) (g : Tree) → onward a (whole m g) ≡ Ok m
+AtEnd a false = (m : Meaning) (g : Tree) → onward a (whole m g) ≡ onward a g
+
 -- the way goes on with one range more, or with what else may come
 pub record TookRange (a b : Reader) (rs rs' : List Range) : Type 0 where
   pub way : (k : List Range → Tree) (h : Tree) → onward a (reads (range_behind rs) (λ x. k (rs ++ (x ∷ []))) h) ≡ onward b (k rs')
@@ -50,18 +57,22 @@ abbrev pub TakesRange : Reader → Reader → List Range → List Range → Bool
 TakesRange a b rs rs' true = TookRange a b rs rs'
 TakesRange a b rs rs' false = NoRange a b rs rs'
 
--- the next piece is a text, or a tag or the end is next
-pub record IsText (bs : List ℕ) (w : Words) : Type 0 where
-  pub text : w.text.now ≡ piece bs
-  pub rest : w.rest.now ≡ after bs
+-- kinds whose pieces are texts
+abbrev pub Textual : Kind → Type 0
+Textual (kind.tag t) = ⊥
+Textual (range_behind rs) = ⊥
+Textual κ = Unit {0}
 
-pub record NoText (end : ℕ) (bs : List ℕ) (e : ReadFault) : Type 0 where
-  pub tag : 0 < length bs → slice_index bs 0 ≡ 60
-  pub place : e.place ≡ end - length bs
+-- the next piece of bs is of this kind, with what it holds and what comes after it, or it is not
+abbrev pub Next : (κ : Kind) {T : Type 0} → (T → Value κ) → List ℕ → Option (T × Bor (List ℕ)) → Type 0
+Next κ held bs r =
+    MatchOption r (reader κ (piece bs) ≡ None) (λ x. (reader κ (piece bs) ≡ Some (held x.0)) × (x.1.now ≡ after bs))
 
-abbrev pub NextText : Reader → Result Words ReadFault → Type 0
-NextText a (Ok w) = IsText a.rest.now w
-NextText a (Err e) = NoText a.whole a.rest.now e
+-- the next piece of bs is a range, with what comes after it, or it is none
+abbrev pub NextRange : List ℕ → Option (Range × Bor (List ℕ)) → Type 0
+NextRange bs r =
+    MatchOption r ((rs : List Range) → reader (range_behind rs) (piece bs) ≡ None)
+    (λ x. (range_read (piece bs) ≡ Some x.0) × (x.1.now ≡ after bs))
 
 -- the frame, or the place of the fault
 abbrev pub outcome : Result Frame ReadFault → Result Meaning ℕ

@@ -1,51 +1,29 @@
 // Parts of a frame that stand in several forms.
-ghost use Rattle.std.specs.Prelude.{◌≡◌, Bool};
+ghost use Rattle.std.specs.Prelude.{◌≡◌, [], ◌∷◌};
 ghost use Rattle.std.specs.Option.{option_map};
 ghost use Rattle.frame.specs.Listed.{listed};
 ghost use Rattle.frame.specs.Meanings.{fault_meaning};
-ghost use Rattle.frame_reader.specs.Reading.{onward, Leads, Passes};
-ghost use Rattle.grammar.specs.Grammar.{identifier_part, again_part, number_part, ranges_part, final_part, credit_part, last_part, detail_part, fault_part, within};
-ghost use Rattle.grammar.specs.Trees.{Tree};
+ghost use Rattle.frame_reader.specs.Reading.{Leads, NextRange, TakesRange};
+ghost use Rattle.grammar.specs.Grammar.{identifier_part, ranges_part, more_ranges, credit_part, last_part, detail_part, fault_part, one, within};
+ghost use Rattle.grammar.specs.Kinds.{range_behind};
 ghost use Rattle.pieces.specs.declared.names.Element.TheVariants as element;
 
 use crate::reader::Reader;
-use frame::{Fault, Identifier, Number, Ranges};
-use pieces::{Element, FaultCode, ReadFault, Tag};
+use frame::{Fault, Identifier, Number, Range, Ranges};
+use pieces::{Element, FaultCode, ReadFault, Tag, Token, read_range};
 
-impl Reader<'_> {
+impl<'a> Reader<'a> {
     pub(crate) fn identifier(&mut self) -> Result<Identifier, ReadFault>
         ensures { Leads (λ i. i.value) identifier_part self.old self.new result }
     {
-        self.expect(Tag::Open(Element::Identifier))?;
-        let identifier = self.identifier_text()?;
-        self.expect(Tag::Close(Element::Identifier))?;
-        Ok(identifier)
-    }
-
-    // The identifier that stood in the receipt before.
-    pub(crate) fn again(&mut self, identifier: Identifier) -> Result<(), ReadFault>
-        ensures { Passes (again_part identifier.value) self.old self.new result }
-    {
-        self.expect(Tag::Open(Element::Identifier))?;
-        self.again_text(identifier)?;
-        self.expect(Tag::Close(Element::Identifier))?;
-        Ok(())
-    }
-
-    pub(crate) fn number(&mut self, element: Element) -> Result<Number, ReadFault>
-        ensures { Leads (λ n. n.value) (number_part element) self.old self.new result }
-    {
-        self.expect(Tag::Open(element))?;
-        let number = self.number_text()?;
-        self.expect(Tag::Close(element))?;
-        Ok(number)
+        self.within(Element::Identifier)
     }
 
     // The credit, and the end of the receipt.
     pub(crate) fn credit(&mut self) -> Result<Number, ReadFault>
         ensures { Leads (λ n. n.value) credit_part self.old self.new result }
     {
-        let credit = self.number(Element::Credit)?;
+        let credit = self.within(Element::Credit)?;
         self.expect(Tag::Close(Element::SequenceAcknowledgement))?;
         Ok(credit)
     }
@@ -57,7 +35,7 @@ impl Reader<'_> {
         if !self.takes(Tag::Open(Element::LastMsgNumber)) {
             return Ok(None);
         }
-        let last = self.number_text()?;
+        let last = self.text()?;
         self.expect(Tag::Close(Element::LastMsgNumber))?;
         Ok(Some(last))
     }
@@ -65,10 +43,18 @@ impl Reader<'_> {
     pub(crate) fn ranges(&mut self) -> Result<Ranges, ReadFault>
         ensures { Leads listed ranges_part self.old self.new result }
     {
-        let mut ranges = Ranges::new();
         if self.takes(Tag::Empty(Element::Nothing)) {
-            return Ok(ranges);
+            return Ok(Ranges::new());
         }
+        self.some_ranges()
+    }
+
+    // One range or more.
+    #[tactic(auto, using(crate::proofs::Steps::first_off, crate::proofs::Steps::more_on))]
+    fn some_ranges(&mut self) -> Result<Ranges, ReadFault>
+        ensures { Leads listed (λ k. one (range_behind []) (λ x. more_ranges 4 (x ∷ []) k)) self.old self.new result }
+    {
+        let mut ranges = Ranges::new();
         if !self.takes_range(&mut ranges) {
             return Err(self.fault());
         }
@@ -76,24 +62,44 @@ impl Reader<'_> {
         Ok(ranges)
     }
 
-    // Takes the mark of a final receipt if it comes next, and answers whether it did.
-    pub(crate) fn is_final(&mut self) -> bool
-        ensures { (k : Bool → Tree) → onward self.old (final_part k) ≡ onward self.new (k result) }
+    // The range that comes next, and what comes after it.
+    #[tactic(auto, using(crate::proofs::Steps::range_steps))]
+    fn range(&self) -> Option<(Range, &'a [u8])>
+        ensures { NextRange self.now.rest.now result }
     {
-        self.takes(Tag::Empty(Element::Final))
+        let lexed = self.piece()?;
+        let Token::Empty(part) = lexed.token else {
+            return None;
+        };
+        Some((read_range(part)?, lexed.rest))
+    }
+
+    // Takes a range that may stand behind these if it comes next, and answers whether it did.
+    #[tactic(auto, using(crate::proofs::Steps::no_range_steps))]
+    fn takes_range(&mut self, ranges: &mut Ranges) -> bool
+        ensures { TakesRange self.old self.new
+            (listed ranges.old) (listed ranges.new) result }
+    {
+        let Some((range, rest)) = self.range() else {
+            return false;
+        };
+        if !ranges.push(range) {
+            return false;
+        }
+        self.rest = rest;
+        true
     }
 
     pub(crate) fn sequence_fault(&mut self) -> Result<Fault, ReadFault>
         ensures { Leads fault_meaning fault_part self.old self.new result }
     {
-        self.expect(Tag::Open(Element::FaultCode))?;
-        let code = self.fault_code_text()?;
-        self.expect(Tag::Close(Element::FaultCode))?;
+        let code = self.within(Element::FaultCode)?;
         let fault = self.about(code)?;
         Ok(fault)
     }
 
     // What a fault of this name is about.
+    #[tactic(auto, using(crate::proofs::Steps::detail_steps))]
     fn about(&mut self, code: FaultCode) -> Result<Fault, ReadFault>
         ensures { Leads fault_meaning (detail_part code) self.old self.new result }
     {

@@ -1,9 +1,11 @@
 // Going through the pieces of a frame.
-ghost use Rattle.std.specs.Prelude.{◌≡◌, ◌-◌, length};
-ghost use Rattle.frame_reader.specs.Reading.{Passes, Takes, NextText};
-ghost use Rattle.grammar.specs.Grammar.{only};
+ghost use Rattle.std.specs.Prelude.{◌≡◌, length, Err, MatchOption};
+ghost use Rattle.frame_reader.specs.Reading.{onward, AtEnd, Passes, Takes};
+ghost use Rattle.grammar.specs.Grammar.{only, tagged};
+ghost use Rattle.grammar.specs.Trees.{Tree, stop, walk};
+ghost use Rattle.pieces.specs.Tokens.{First};
 
-use pieces::{ReadFault, Tag, Token, lex};
+use pieces::{Lexed, ReadFault, Tag, lex};
 
 // What is left of a frame of `whole` bytes.
 #[derive(Clone, Copy)]
@@ -12,36 +14,54 @@ pub(crate) struct Reader<'a> {
     pub(crate) rest: &'a [u8],
 }
 
-// A piece that is a text, and what comes after it.
-#[derive(Clone, Copy)]
-pub(crate) struct Words<'a> {
-    pub(crate) text: &'a [u8],
-    pub(crate) rest: &'a [u8],
-}
-
 impl<'a> Reader<'a> {
+    // The reader of a whole frame.
+    pub(crate) fn new(bytes: &'a [u8]) -> Reader<'a>
+        ensures { (g : Tree) → onward result g ≡ walk (length bytes.now) g bytes.now }
+    {
+        Reader {
+            whole: bytes.len(),
+            rest: bytes,
+        }
+    }
+
     // The fault at the next piece.
+    #[tactic(auto, using(grammar::proofs::Walks::walk_stop))]
     pub(crate) fn fault(&self) -> ReadFault
-        ensures { result.place ≡ self.now.whole - length self.now.rest.now }
+        ensures { onward self.now stop ≡ Err result.place }
     {
         ReadFault {
             place: self.whole.saturating_sub(self.rest.len()),
         }
     }
 
+    // Whether nothing is left.
+    #[tactic(auto, using(crate::proofs::Steps::told_end))]
+    pub(crate) fn at_end(&self) -> bool
+        ensures { AtEnd self.now result }
+    {
+        self.rest.is_empty()
+    }
+
+    // The next piece, and what comes after it.
+    #[tactic(auto, using(crate::proofs::Steps::cuts))]
+    pub(crate) fn piece(&self) -> Option<Lexed<'a>>
+        ensures { MatchOption result (length self.now.rest.now ≡ 0) (First self.now.rest.now) }
+    {
+        lex(self.whole, self.rest).ok()
+    }
+
     // Takes the tag if it comes next, and answers whether it did.
+    #[tactic(auto, using(crate::proofs::Steps::tag_steps))]
     pub(crate) fn takes(&mut self, tag: Tag) -> bool
         ensures { Takes tag self.old self.new result }
     {
-        match lex(self.whole, self.rest) {
-            Ok(lexed) => {
-                if !lexed.token.is_tag(tag) {
-                    return false;
-                }
+        match self.piece() {
+            Some(lexed) if lexed.token.is_tag(tag) => {
                 self.rest = lexed.rest;
                 true
             }
-            Err(_) => false,
+            _ => false,
         }
     }
 
@@ -54,19 +74,5 @@ impl<'a> Reader<'a> {
         } else {
             Err(self.fault())
         }
-    }
-
-    // The next piece, which has to be a text.
-    pub(crate) fn text(&self) -> Result<Words<'a>, ReadFault>
-        ensures { NextText self.now result }
-    {
-        let lexed = lex(self.whole, self.rest)?;
-        let Token::Text(text) = lexed.token else {
-            return Err(self.fault());
-        };
-        Ok(Words {
-            text,
-            rest: lexed.rest,
-        })
     }
 }

@@ -18,15 +18,3 @@ pub returns-in_err-detail-in-SequenceClosed : goal.returns-in_err-detail-in-Sequ
 returns-in_err-detail-in-SequenceClosed c =
     let p = err_from_is_err_and c.from_residual-in_err-detail-in-SequenceClosed.result c.from_residual-in_err-detail-in-SequenceClosed.ensures.1 in
     rw (p.1, p.2) (λ k. ap (λ x. onward c.args.self.now (detail_part x k)) c.in-SequenceClosed.is ∙ c.in_err-detail-in-SequenceClosed.ensures _)
-
-pub returns-in_ok-detail-in-UnknownSequence : goal.returns-in_ok-detail-in-UnknownSequence
-returns-in_ok-detail-in-UnknownSequence c k =
-    ap (λ x. onward c.args.self.now (detail_part x k)) c.in-UnknownSequence.is ∙ c.in_ok-detail-in-UnknownSequence.ensures _
-
-pub returns-in_ok-detail-in-SequenceTerminated : goal.returns-in_ok-detail-in-SequenceTerminated
-returns-in_ok-detail-in-SequenceTerminated c k =
-    ap (λ x. onward c.args.self.now (detail_part x k)) c.in-SequenceTerminated.is ∙ c.in_ok-detail-in-SequenceTerminated.ensures _
-
-pub returns-in_ok-detail-in-SequenceClosed : goal.returns-in_ok-detail-in-SequenceClosed
-returns-in_ok-detail-in-SequenceClosed c k =
-    ap (λ x. onward c.args.self.now (detail_part x k)) c.in-SequenceClosed.is ∙ c.in_ok-detail-in-SequenceClosed.ensures _

@@ -4,7 +4,7 @@ use Rattle.frame.specs.declared.range.Range.{Range}
 use Rattle.grammar.specs.Grammar.{more_ranges}
 use Rattle.grammar.specs.Trees.{Tree}
 use Rattle.frame_reader.specs.Reading.{onward}
-use Rattle.frame_reader.proofs.reader.Reader.ranges.Given as goal
+use Rattle.frame_reader.proofs.reader.Reader.some_ranges.Given as goal
 
 abbrev pub invariant-loop : goal.invariant-loop
 invariant-loop l =
