@@ -12,17 +12,15 @@ use Rattle.frame.specs.declared.fault.Fault.TheVariants as fault
 use Rattle.frame.specs.declared.frame.Frame.{Frame}
 use Rattle.frame.specs.declared.frame.Frame.TheVariants as frame
 use Rattle.frame.specs.declared.frame.Receipt.{Receipt}
-use Rattle.frame.specs.declared.bounded.Bounded.{Bounded}
+use Rattle.frame.specs.Numbers.{Identifier, Number}
 
--- a sequence's identifier is a `Bounded` of the code up to 4,294,967,295
-identified : (i : Bounded 4294967295) → IsIdentifier i.value
+identified : (i : Identifier) → IsIdentifier i.value
 identified i = (i.low, i.high)
 
--- and a message number or a credit one up to M
-numbered : (m : Bounded 9223372036854775807) → IsNumber m.value
+numbered : (m : Number) → IsNumber m.value
 numbered m = (m.low, m.high)
 
-last_numbered : (last : Option (Bounded 9223372036854775807)) → IsLast (option_map (λ m. m.value) last)
+last_numbered : (last : Option Number) → IsLast (option_map (λ m. m.value) last)
 last_numbered None = tt
 last_numbered (Some m) = numbered m
 

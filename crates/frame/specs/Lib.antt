@@ -1,4 +1,5 @@
 pub mod Bounds
+pub mod Numbers
 pub mod Ascending
 pub mod Listed
 pub mod Meanings

@@ -4,7 +4,7 @@ use Rattle.std.specs.Option.{option_map}
 use Rattle.std.proofs.lemmas.List.{append_assoc, append-nil}
 use Rattle.frame.specs.Meanings.{AllBytes}
 use Rattle.frame.specs.Meanings as meant
-use Rattle.frame.specs.declared.number.Number.{Number}
+use Rattle.frame.specs.Numbers.{Number}
 use Rattle.frame.specs.declared.range.Range.{Range}
 use Rattle.pieces.specs.Attributes.{range_text, range_opens, range_between, range_closes}
 use Rattle.pieces.specs.Hex.{hex_char, hex_text}

@@ -2,7 +2,7 @@
 use Rattle.std.specs.Prelude.{ℕ, Bool, true, false, List, Some, None, decimal, Option}
 use Rattle.frame.specs.declared.fault.Fault.{Fault}
 use Rattle.frame.specs.declared.fault.Fault.TheVariants as fault
-use Rattle.frame.specs.declared.number.Number.{Number}
+use Rattle.frame.specs.Numbers.{Number}
 use Rattle.pieces.specs.Attributes.{range_text}
 use Rattle.pieces.specs.Tags.{tag_text}
 use Rattle.pieces.specs.declared.names.Element.TheVariants as element

@@ -2,7 +2,7 @@
 use Rattle.std.proofs.Common.{◌≡◌, false, is_some, Some, None, Option, ◌∙◌}
 use Rattle.std.specs.Option.{option_map}
 use Rattle.std.proofs.lemmas.List.{length-map}
-use Rattle.frame.specs.declared.identifier.Identifier.{Identifier}
+use Rattle.frame.specs.Numbers.{Identifier}
 use Rattle.planner.specs.Laws.{Sound, Uncreated}
 use Rattle.planner.specs.Sources.{source_of}
 use Rattle.planner.specs.Windows.{slot_of}

@@ -1,6 +1,6 @@
 -- The order of the states of the planner's end, and that a sequence's identifier is held from Created on.
 use Rattle.std.specs.Prelude.{ℕ, Bool, true, is_some, Option}
-use Rattle.frame.specs.declared.identifier.Identifier.{Identifier}
+use Rattle.frame.specs.Numbers.{Identifier}
 use Rattle.planner.specs.declared.state.PlannerState.{PlannerState}
 use Rattle.planner.specs.declared.state.PlannerState.TheVariants as state
 

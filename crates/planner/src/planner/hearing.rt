@@ -1,7 +1,7 @@
 ghost use Rattle.std.specs.Prelude.{◌≡◌, ◌≤◌, true, is_some, Option};
 ghost use Rattle.frame.specs.Forms.{form_of};
 ghost use Rattle.frame.specs.Listed.{listed};
-ghost use Rattle.frame.specs.declared.identifier.Identifier.{Identifier};
+ghost use Rattle.frame.specs.Numbers.{Identifier};
 ghost use Rattle.frame.specs.Meanings.{meaning, fault_meaning};
 ghost use Rattle.grammar.specs.Grammar.{reading};
 ghost use Rattle.planner.specs.Hearing.{about, about_fault, after_fault, created, if_creating, heeds, hears, hears_read, is_held, once_closed, once_ended, takes};
