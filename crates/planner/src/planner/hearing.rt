@@ -35,7 +35,7 @@ impl Planner {
                 if self.holds(identifier) {
                     self.heed(frame)
                 } else {
-                    Err(PlannerRefusal::Identifier(identifier.get()))
+                    Err(PlannerRefusal::Identifier(identifier.get() as u32))
                 }
             }
             None => self.heed(frame),
