@@ -1,5 +1,6 @@
 -- The places, one number further.
-use Rattle.std.proofs.Common.{◌≡◌, ℕ, zero, suc, ◌+◌, List, [], ◌∷◌, ◌++◌, length, get_or, take, drop, set, is_some, None, Option, sym, refl, ap, ◌∙◌, arith, length-append, length-drop}
+use Rattle.std.proofs.Common.{◌≡◌, ℕ, zero, suc, ◌+◌, List, [], ◌∷◌, ◌++◌, length, get_or, take, drop, set, is_some, Some, None, Option, sym, refl, ap, ◌∙◌, arith, length-append, length-drop}
+use Rattle.office.specs.Deliveries.{first, left, left_by}
 use Rattle.office.specs.Places.{Numbered, shifted}
 
 module _ {A : Type 0} where
@@ -32,3 +33,7 @@ module _ {A : Type 0} where
 
   pub length_shifted : (ps : List (Option A)) → length ps ≡ 8 → length (shifted ps) ≡ 8
   length_shifted ps e = simp (length-append, length-drop) (omega arith)
+
+  -- what a delivery leaves where there is a first letter
+  pub left_shifted : (d : ℕ) (ps : List (Option A)) (a : A) → first ps ≡ Some a → shifted ps ≡ (left d ps).1
+  left_shifted d ps a e = sym (ap (λ p. (left_by p d ps).1) e)

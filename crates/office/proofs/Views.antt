@@ -7,15 +7,15 @@ use Rattle.std.specs.Option.{option_map}
 use Rattle.letter.specs.Letters.{content}
 use Rattle.letter.specs.declared.letter.Letter.{Letter}
 use Rattle.office.specs.Accepted.{accepted_at}
-use Rattle.office.specs.Deliveries.{first, delivery, delivers, number_of}
-use Rattle.office.specs.Destinations.{accepts, is_new, with_places}
+use Rattle.office.specs.Deliveries.{first, delivery, delivers, delivers_first, left, left_by, number_of}
+use Rattle.office.specs.Destinations.{Destination, accepts, ranges_of, with_places}
 use Rattle.office.specs.Places.{has_place, place_of, is_free, kept, shifted}
 use Rattle.office.specs.Ranges.{run, runs}
 use Rattle.office.specs.Seen.{contents, seen}
 use Rattle.office.specs.Wholes.{front}
-use Rattle.office.proofs.DeliveryLaws.{delivers_none, delivers_some, number_none, number_some}
 use Rattle.office.proofs.Receipts.{Sound}
 use Rattle.office.specs.declared.office.Office.{Office}
+use Rattle.office.specs.declared.places.Places.{Places}
 
 pub at_contents : (ps : List (Option Letter)) (k : ℕ)
     → get_or (contents ps) k None ≡ option_map content (get_or ps k None)
@@ -56,22 +56,25 @@ runs_contents lower next (None ∷ ps) =
     ap (λ rs. run lower next ++ rs) (runs_contents (next + 1) (next + 1) ps)
 runs_contents lower next (Some l ∷ ps) = runs_contents lower (next + 1) ps
 
--- a letter that has a place, kept there or not
-pub accepts_kept : (o : Office) (n k : ℕ) (l : Letter) (ps : List (Option Letter))
-    → has_place o.delivered n ≡ true → k ≡ place_of o.delivered n
-    → ps ≡ kept (is_free (get_or o.places k None)) o.places k l
-    → with_places (seen o) o.delivered (contents ps) ≡ accepts (seen o) n (content l)
-unfolding accepts
-accepts_kept o n k l ps has at is =
-    let new : is_new (seen o) n ≡ is_free (get_or o.places k None)
-    = ap (λ b. b && is_free (get_or (contents o.places) (place_of o.delivered n) None)) has
-    ∙ ap (λ j. is_free (get_or (contents o.places) j None)) (sym at) ∙ free_contents o.places k in
-    rw (is, kept_contents (is_free (get_or o.places k None)) o.places k l, new, at)
+-- the ranges, of the letters or of their bytes
+pub ranges_seen : (o : Office) → runs 1 (o.places.delivered + 1) o.places.letters ≡ ranges_of (seen o)
+unfolding ranges_of
+ranges_seen o = sym (runs_contents 1 (o.places.delivered + 1) o.places.letters)
 
-pub accepts_none : (o : Office) (n : ℕ) (bs : List ℕ) → has_place o.delivered n ≡ false
-    → seen o ≡ accepts (seen o) n bs
+-- a letter, kept in its place or not
+pub accepts_kept : (o : Office) (n : ℕ) (l : Letter) (q : Places)
+    → q.delivered ≡ o.places.delivered
+    → q.letters ≡
+    kept (has_place o.places.delivered n && is_free (get_or o.places.letters (place_of o.places.delivered n) None))
+    o.places.letters (place_of o.places.delivered n) l
+    → with_places (seen o) q.delivered (contents q.letters) ≡ accepts (seen o) n (content l)
 unfolding accepts
-accepts_none o n bs no_place = rw no_place
+accepts_kept o n l q same is =
+    let d = o.places.delivered in
+    let ps = o.places.letters in
+    let k = place_of d n in
+    rw (same, is, kept_contents (has_place d n && is_free (get_or ps k None)) ps k l)
+    (ap (λ b. with_places (seen o) d (kept (has_place d n && b) (contents ps) k (content l))) (sym (free_contents ps k)))
 
 pub accepted_contents : (d : ℕ) (ps : List (Option Letter)) (n : ℕ)
     → accepted_at d (contents ps) n ≡ accepted_at d ps n
@@ -95,24 +98,29 @@ shown r ps e = through r ∙ ap (option_map content) e ∙ sym (at_contents ps 0
 
 pub sound_seen : (o : Office) → Sound (seen o)
 sound_seen o =
+    let p = o.places in
     record {
-      eight = length-map o.places (option_map content) ∙ o.eight;
-      counted = o.counted;
-      numbered = λ k e. o.numbered k (sym (some_contents o.places k) ∙ e);
+      eight = length-map p.letters (option_map content) ∙ p.eight;
+      counted = p.counted;
+      numbered = λ k e. p.numbered k (sym (some_contents p.letters k) ∙ e);
     }
 
 -- a delivery, as the code makes it
-pub delivered_some : (o : Office) (n : ℕ) (ps : List (Option Letter))
-    → Some n ≡ number_of o.delivered (first o.places)
-    → ps ≡ shifted o.places
-    → delivery (with_places (seen o) n (contents ps)) (Some n) ≡ delivers (seen o)
-delivered_some o n ps e is =
-    let next = number_some o.delivered n (first o.places) e in
-    rw (is, shifted_contents o.places, next.0)
-    (delivers_some (seen o) (some_contents o.places 0 ∙ next.1))
+left_contents : (o : Destination) (d : ℕ) (ps : List (Option Letter)) (p : Option Letter)
+    → delivery (with_places o (left_by p d ps).0 (contents (left_by p d ps).1)) (number_of d p)
+    ≡ delivers_first (option_map content p) (with_places o d (contents ps))
+left_contents o d ps None = refl
+left_contents o d ps (Some l) =
+    ap (λ qs. delivery (with_places o (d + 1) qs) (Some (d + 1))) (shifted_contents ps)
 
-pub delivered_none : (o : Office) → None ≡ number_of o.delivered (first o.places)
-    → delivery (seen o) None ≡ delivers (seen o)
-delivered_none o e =
-    let none = number_none o.delivered (first o.places) e in
-    delivers_none (seen o) (at_contents o.places 0 ∙ ap (option_map content) none)
+pub delivers_left : (o : Office) (q : Places) (n : Option ℕ)
+    → n ≡ number_of o.places.delivered (first o.places.letters)
+    → q.delivered ≡ (left o.places.delivered o.places.letters).0
+    → q.letters ≡ (left o.places.delivered o.places.letters).1
+    → delivery (with_places (seen o) q.delivered (contents q.letters)) n ≡ delivers (seen o)
+unfolding delivers
+delivers_left o q n e f g =
+    let d = o.places.delivered in
+    let ps = o.places.letters in
+    rw (e, f, g)
+    (left_contents (seen o) d ps (first ps) ∙ ap (λ p. delivers_first p (seen o)) (sym (at_contents ps 0)))

@@ -31,3 +31,11 @@ delivers o = delivers_first (next_letter o) o
 abbrev pub number_of : {A : Type 0} → ℕ → Option A → Option ℕ
 number_of d None = None
 number_of d (Some a) = Some (d + 1)
+
+-- the number delivered and the places, once the letter in the first place is delivered, if there is one
+abbrev pub left_by : {A : Type 0} → Option A → ℕ → List (Option A) → ℕ × List (Option A)
+left_by None d ps = (d, ps)
+left_by (Some a) d ps = (d + 1, shifted ps)
+
+abbrev pub left : {A : Type 0} → ℕ → List (Option A) → ℕ × List (Option A)
+left d ps = left_by (first ps) d ps

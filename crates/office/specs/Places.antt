@@ -1,6 +1,6 @@
 -- The eight places, for the message numbers d + 1 to d + 8 where all up to d are delivered.
 -- What they hold is left open: letters in the code, their bytes in the theorems.
-use Rattle.std.specs.Prelude.{◌≡◌, ℕ, ◌+◌, ◌-◌, ◌≤◌, Bool, true, false, ◌&&◌, List, [], ◌∷◌, ◌++◌, drop, is_some, Some, None, Option, nat_le, nat_lt, slice_index_or, slice_set}
+use Rattle.std.specs.Prelude.{◌≡◌, ℕ, ◌+◌, ◌-◌, ◌≤◌, Bool, true, false, cond, ◌&&◌, List, [], ◌∷◌, ◌++◌, drop, is_some, Some, None, Option, nat_le, nat_lt, slice_index_or, slice_set}
 use Rattle.frame.specs.Bounds.{M}
 
 abbrev pub has_place : ℕ → ℕ → Bool
@@ -9,6 +9,9 @@ has_place d n = nat_lt d n && nat_le n (d + 8)
 -- the place of message number n, counted from 0
 abbrev pub place_of : ℕ → ℕ → ℕ
 place_of d n = n - d - 1
+
+abbrev pub place_if : ℕ → ℕ → Option ℕ
+place_if d n = cond (has_place d n) (Some (place_of d n)) None
 
 abbrev pub is_free : {A : Type 0} → Option A → Bool
 is_free None = true

@@ -6,7 +6,7 @@ use Rattle.pieces.specs.declared.fault.ReadFault.{ReadFault}
 use Rattle.letter.specs.Letters.{content}
 use Rattle.letter.specs.declared.letter.Letter.{Letter}
 use Rattle.office.specs.Destinations.{Destination}
-use Rattle.office.specs.Reads.{Answer, Reading}
+use Rattle.office.specs.Reads.{Answer, Reading, last_of}
 use Rattle.office.specs.declared.answer.ReadAnswer.{ReadAnswer}
 use Rattle.office.specs.declared.office.Office.{Office}
 
@@ -19,9 +19,9 @@ seen o =
       state = o.state;
       identifier = o.identifier.value;
       admits = o.admits;
-      delivered = o.delivered;
-      last = o.last;
-      places = contents o.places;
+      delivered = o.places.delivered;
+      last = last_of (option_map (λ m. m.value) o.last);
+      places = contents o.places.letters;
     }
 
 abbrev pub answer_of : ReadAnswer → Answer

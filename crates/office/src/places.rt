@@ -1,91 +1,140 @@
-ghost use Rattle.std.specs.Prelude.{◌≡◌, ◌+◌, ◌<◌, ◌≤◌, true, None, slice_index_or};
-ghost use Rattle.frame.specs.Bounds.{M};
-ghost use Rattle.office.specs.Accepted.{accepted_at};
-ghost use Rattle.office.specs.Deliveries.{first, number_of};
-ghost use Rattle.office.specs.Places.{has_place, place_of, kept, is_free, shifted};
-ghost use Rattle.office.specs.Wholes.{front};
+ghost use Rattle.std.specs.Prelude.{◌≡◌, ◌+◌, ◌<◌, ◌≤◌, ◌&&◌, IfSome, None, length, replicate, slice_index_or};
 ghost use Rattle.std.specs.Option.{option_map};
+ghost use Rattle.frame.specs.Bounds.{M};
+ghost use Rattle.frame.specs.Listed.{listed};
+ghost use Rattle.office.specs.Accepted.{accepted_at};
+ghost use Rattle.office.specs.Deliveries.{first, number_of, left};
+ghost use Rattle.office.specs.Places.{has_place, is_free, kept, place_if, place_of, Numbered};
+ghost use Rattle.office.specs.Ranges.{runs};
+ghost use Rattle.office.specs.Wholes.{front};
 
+use crate::runs::{name_ended, name_run, start_past};
+use frame::{Number, Ranges};
 use letter::Letter;
 
 // How many places there are.
-pub(crate) const PLACES: usize = 8;
+const PLACES: usize = 8;
 
-// Whether the message number has a place, where all up to `delivered` are delivered.
-pub(crate) fn has_place(delivered: u64, number: u64) -> bool
-    requires { delivered ≤ M }
-    ensures { result ≡ has_place delivered number }
-{
-    delivered < number && number <= delivered + 8
+// The letters that are accepted and not delivered yet. Place k is that of message number delivered + 1 + k.
+// An array, and no ring: an end lies in memory of its own, is copied whole, and the places are eight.
+#[derive(Clone, Copy)]
+pub(crate) struct Places {
+    // All message numbers up to this one are delivered.
+    delivered: u64,
+    letters: [Option<Letter>; PLACES],
+    ghost eight: { length letters ≡ 8 },
+    ghost counted: { delivered ≤ M },
+    ghost numbered: { Numbered delivered letters },
 }
 
-// The place of a message number that has one.
-pub(crate) fn place_of(delivered: u64, number: u64) -> usize
-    requires { has_place delivered number ≡ true }
-    ensures value { result ≡ place_of delivered number }
-    ensures within { result < 8 }
-{
-    (number - delivered - 1) as usize
-}
-
-// Keeps the letter, if its place is free: the first letter of a number stays.
-pub(crate) fn keep(places: &mut [Option<Letter>; PLACES], place: usize, letter: Letter)
-    requires { place < 8 }
-    ensures { places.new
-        ≡ kept (is_free (slice_index_or places.old place None))
-        places.old place letter }
-{
-    if places[place].is_none() {
-        places[place] = Some(letter);
+impl Places {
+    // Nothing is accepted.
+    pub(crate) fn new() -> Places
+        ensures delivered { result.delivered ≡ 0 }
+        ensures letters { result.letters ≡ replicate 8 None }
+    {
+        Places {
+            delivered: 0,
+            letters: [None; PLACES],
+        }
     }
-}
 
-// Lets the first place go, and makes room behind the last.
-pub(crate) fn shift(places: &mut [Option<Letter>; PLACES])
-    ensures { places.new ≡ shifted places.old }
-{
-    places.rotate_left(1);
-    places[7] = None;
-}
-
-// The letter in the first place.
-pub(crate) fn first(places: &[Option<Letter>; PLACES]) -> Option<&Letter>
-    ensures { option_map (λ x. x.now) result ≡ first places.now }
-{
-    places[0].as_ref()
-}
-
-// The message number of the letter in the first place.
-pub(crate) fn number_of(delivered: u64, first: Option<&Letter>) -> Option<u64>
-    requires { delivered ≤ M }
-    ensures { result ≡ number_of delivered (option_map (λ x. x.now) first.entry) }
-{
-    match first {
-        None => None,
-        Some(_) => Some(delivered + 1),
+    // All message numbers up to this one are delivered.
+    pub(crate) fn delivered(&self) -> u64
+        ensures value { result ≡ self.now.delivered }
+        ensures most { result ≤ M }
+    {
+        self.delivered
     }
-}
 
-// Whether the message number is delivered, or its letter stands in its place.
-pub(crate) fn is_accepted_at(delivered: u64, places: &[Option<Letter>; PLACES], number: u64) -> bool
-    requires { delivered ≤ M }
-    ensures { result ≡ accepted_at delivered places.now number }
-{
-    1 <= number && number <= delivered
-        || has_place(delivered, number) && places[place_of(delivered, number)].is_some()
+    // The place of the message number, if it has one.
+    fn place(&self, number: u64) -> Option<usize>
+        ensures value { result ≡ place_if self.now.delivered number }
+        ensures within { IfSome result (λ k. k < 8) }
+    {
+        if self.delivered < number && number <= self.delivered + 8 {
+            Some((number - self.delivered - 1) as usize)
+        } else {
+            None
+        }
+    }
+
+    // Keeps the letter, if its message number has a place and that is free: the first letter of a number stays.
+    pub(crate) fn keep(&mut self, number: Number, letter: Letter)
+        ensures delivered { self.new.delivered ≡ self.old.delivered }
+        ensures letters { self.new.letters ≡ kept
+            (has_place self.old.delivered number.value
+            && is_free (slice_index_or self.old.letters (place_of self.old.delivered number.value) None))
+            self.old.letters (place_of self.old.delivered number.value) letter }
+    {
+        if let Some(place) = self.place(number.get()) {
+            if self.letters[place].is_none() {
+                self.letters[place] = Some(letter);
+            }
+        }
+    }
+
+    // The letter in the first place.
+    pub(crate) fn first(&self) -> Option<&Letter>
+        ensures { option_map (λ x. x.now) result ≡ first self.now.letters }
+    {
+        self.letters[0].as_ref()
+    }
+
+    // Takes the letter out of the first place, makes room behind the last, and answers its message number.
+    pub(crate) fn deliver(&mut self) -> Option<u64>
+        ensures number { result ≡ number_of self.old.delivered (first self.old.letters) }
+        ensures delivered { self.new.delivered ≡ (left self.old.delivered self.old.letters).0 }
+        ensures letters { self.new.letters ≡ (left self.old.delivered self.old.letters).1 }
+    {
+        self.first()?;
+        self.letters.rotate_left(1);
+        self.letters[PLACES - 1] = None;
+        self.delivered += 1;
+        Some(self.delivered)
+    }
+
+    // Whether the message number is delivered, or its letter stands in its place.
+    pub(crate) fn is_accepted(&self, number: u64) -> bool
+        ensures { result ≡ accepted_at self.now.delivered self.now.letters number }
+    {
+        match self.place(number) {
+            Some(place) => self.letters[place].is_some(),
+            None => 1 <= number && number <= self.delivered,
+        }
+    }
+
+    // All message numbers up to this one are accepted, and the next one is not.
+    pub(crate) fn reached(&self) -> u64
+        ensures { result ≡ self.now.delivered + front self.now.letters }
+    {
+        self.delivered + front(&self.letters) as u64
+    }
+
+    // The ranges of all accepted numbers.
+    pub(crate) fn ranges(&self) -> Ranges
+        ensures { listed result ≡ runs 1 (self.now.delivered + 1) self.now.letters }
+    {
+        let mut ranges = Ranges::new();
+        let mut lower = 1;
+        let mut next = self.delivered + 1;
+        for place in &self.letters {
+            name_ended(&mut ranges, place, lower, next);
+            lower = start_past(place, lower, next);
+            next += 1;
+        }
+        name_run(&mut ranges, lower, next);
+        ranges
+    }
 }
 
 // How many letters stand in front without a gap.
-pub(crate) fn front(places: &[Option<Letter>; PLACES]) -> u64
-    ensures value { result ≡ front places.now }
+fn front(letters: &[Option<Letter>; PLACES]) -> usize
+    ensures value { result ≡ front letters.now }
     ensures few { result ≤ 8 }
 {
-    let mut n = 0;
-    for place in places {
-        match place {
-            Some(_) => n += 1,
-            None => return n,
-        }
-    }
-    n
+    letters
+        .iter()
+        .position(|letter| letter.is_none())
+        .unwrap_or(PLACES)
 }

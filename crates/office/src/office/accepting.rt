@@ -4,7 +4,6 @@ ghost use Rattle.office.specs.Destinations.{accepts};
 ghost use Rattle.office.specs.Seen.{seen};
 
 use super::Office;
-use crate::places::{has_place, keep, place_of};
 use frame::Number;
 use letter::Letter;
 
@@ -14,9 +13,6 @@ impl Office {
         ensures { seen self.new
             ≡ accepts (seen self.old) number.value (content letter) }
     {
-        let n = number.get();
-        if has_place(self.delivered, n) {
-            keep(&mut self.places, place_of(self.delivered, n), letter);
-        }
+        self.places.keep(number, letter);
     }
 }

@@ -7,37 +7,18 @@ ghost use Rattle.office.specs.Destinations.{close_response, terminate_response};
 ghost use Rattle.office.specs.Seen.{seen};
 
 use super::Office;
-use crate::runs::{name_ended, name_run, start_past};
 use crate::state::OfficeState;
-use frame::{Frame, Number, Ranges, Receipt};
+use frame::{Frame, Number, Receipt};
 
 impl Office {
-    // The ranges of all accepted numbers.
-    fn ranges(&self) -> Ranges
-        ensures { listed result ≡ ranges_of (seen self.now) }
-    {
-        let mut ranges = Ranges::new();
-        let mut lower = 1;
-        let mut next = self.delivered + 1;
-        for place in &self.places {
-            name_ended(&mut ranges, place, lower, next);
-            lower = start_past(place, lower, next);
-            next += 1;
-        }
-        name_run(&mut ranges, lower, next);
-        ranges
-    }
-
     // The highest message number that has a place or had one.
     fn credit(&self) -> Number
         ensures { result.value ≡ credit_of (seen self.now) }
     {
-        match Number::new((self.delivered + 8).min(9_223_372_036_854_775_807)) {
-            Some(credit) => credit,
-            None => unreachable(),
-        }
+        Number::new((self.places.delivered() + 8).min(9_223_372_036_854_775_807)).unwrap()
     }
 
+    #[tactic(auto, using(crate::proofs::Views::ranges_seen))]
     fn receipt(&self) -> Receipt
         ensures identifier { result.identifier.value ≡ self.now.identifier.value }
         ensures ranges { listed result.ranges ≡ ranges_of (seen self.now) }
@@ -45,7 +26,7 @@ impl Office {
     {
         Receipt {
             identifier: self.identifier,
-            ranges: self.ranges(),
+            ranges: self.places.ranges(),
             credit: self.credit(),
         }
     }
@@ -79,8 +60,5 @@ impl Office {
 fn is_created(state: OfficeState) -> bool
     ensures { result ≡ is_created state }
 {
-    match state {
-        OfficeState::Created => true,
-        OfficeState::None | OfficeState::Closed | OfficeState::Terminated => false,
-    }
+    matches!(state, OfficeState::Created)
 }

@@ -4,7 +4,7 @@ ghost use Rattle.office.specs.Seen.{seen};
 ghost use Rattle.office.specs.Wholes.{is_over, is_whole, Whole};
 
 use super::Office;
-use crate::places::{front, is_accepted_at};
+use super::reading::last_of;
 use crate::state::OfficeState;
 
 impl Office {
@@ -12,7 +12,7 @@ impl Office {
     pub fn is_accepted(&self, number: u64) -> bool
         ensures { result ≡ is_accepted (seen self.now) number }
     {
-        is_accepted_at(self.delivered, &self.places, number)
+        self.places.is_accepted(number)
     }
 
     // Whether the sequence is over and every letter up to the last has been accepted.
@@ -21,7 +21,7 @@ impl Office {
         ensures law { MatchBool result (Whole (seen self.now))
             (Whole (seen self.now) → ⊥) }
     {
-        is_whole_at(self.state, self.last, self.delivered + front(&self.places))
+        is_whole_at(self.state, last_of(self.last), self.places.reached())
     }
 }
 
@@ -30,8 +30,5 @@ impl Office {
 fn is_whole_at(state: OfficeState, last: u64, reached: u64) -> bool
     ensures { result ≡ (is_over state && nat_le last reached) }
 {
-    match state {
-        OfficeState::None | OfficeState::Created => false,
-        OfficeState::Closed | OfficeState::Terminated => last <= reached,
-    }
+    matches!(state, OfficeState::Closed | OfficeState::Terminated) && last <= reached
 }

@@ -6,7 +6,6 @@ ghost use Rattle.office.specs.Laws.{Keeps};
 ghost use Rattle.office.specs.Seen.{seen};
 
 use super::Office;
-use crate::places::{first, number_of, shift};
 use letter::Letter;
 
 impl Office {
@@ -14,7 +13,7 @@ impl Office {
     pub fn next(&self) -> Option<&Letter>
         ensures { option_map (λ l. content l.now) result ≡ next_letter (seen self.now) }
     {
-        first(&self.places)
+        self.places.first()
     }
 
     // Counts that letter as delivered, and answers its message number.
@@ -23,13 +22,6 @@ impl Office {
             ≡ delivers (seen self.old) }
         ensures keeps { Keeps (seen self.old) (seen self.new) }
     {
-        match number_of(self.delivered, first(&self.places)) {
-            None => None,
-            Some(number) => {
-                shift(&mut self.places);
-                self.delivered = number;
-                Some(number)
-            }
-        }
+        self.places.deliver()
     }
 }

@@ -48,7 +48,7 @@ impl Office {
             | Frame::AckRequested { identifier }
             | Frame::CloseSequence { identifier, .. }
             | Frame::TerminateSequence { identifier, .. } => {
-                if identifier.get() == self.identifier.get() {
+                if *identifier == self.identifier {
                     None
                 } else {
                     Some(*identifier)
@@ -90,14 +90,14 @@ impl Office {
             }
             (OfficeState::Created, Frame::CloseSequence { last, .. }) => {
                 self.state = OfficeState::Closed;
-                self.last = last_of(last);
+                self.last = last;
                 Some(self.close_response())
             }
             // The first LastMsgNumber stays.
             (OfficeState::Closed, Frame::CloseSequence { .. }) => Some(self.close_response()),
             (OfficeState::Created, Frame::TerminateSequence { last, .. }) => {
                 self.state = OfficeState::Terminated;
-                self.last = last_of(last);
+                self.last = last;
                 Some(self.terminate_response())
             }
             (OfficeState::Closed, Frame::TerminateSequence { .. }) => {
@@ -147,11 +147,9 @@ fn fault(fault: Fault) -> Frame
     Frame::SequenceFault { fault }
 }
 
-fn last_of(last: Option<Number>) -> u64
+// The LastMsgNumber, 0 if there is none.
+pub(super) fn last_of(last: Option<Number>) -> u64
     ensures { result ≡ last_of (option_map (λ m. m.value) last) }
 {
-    match last {
-        None => 0,
-        Some(number) => number.get(),
-    }
+    last.map_or(0, Number::get)
 }

@@ -3,7 +3,7 @@ ghost use Rattle.office.specs.Destinations.{fresh};
 ghost use Rattle.office.specs.Seen.{seen};
 
 use super::Office;
-use crate::places::PLACES;
+use crate::places::Places;
 use crate::state::OfficeState;
 use frame::Identifier;
 
@@ -16,9 +16,8 @@ impl Office {
             identifier,
             admits,
             state: OfficeState::None,
-            delivered: 0,
-            last: 0,
-            places: [None; PLACES],
+            last: None,
+            places: Places::new(),
         }
     }
 }

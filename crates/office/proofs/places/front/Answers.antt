@@ -1,20 +1,13 @@
-use Rattle.std.proofs.Common.{arith, rules}
-use Rattle.office.proofs.Fronts.{front_some, front_none, front_all}
+use Rattle.std.proofs.Common.{is_none, rules, ap, sym, ◌∙◌}
+use Rattle.std.specs.Option.{unwrap_or}
+use Rattle.std.proofs.lemmas.Iterator.{YieldsList-from_slice}
+use Rattle.std.proofs.lemmas.Iterator.Search.{position_from_yields_List}
+use Rattle.office.proofs.Fronts.{first_missing}
 use Rattle.office.proofs.places.front.Goals as goal
 
-pub returns-in-None : goal.returns-in-None
-returns-in-None c =
-    let e = front_none c.args.places.now c.loop-place.place-index c.place-item.result
-    (omega arith) c.in-None.is in
-    search rules
-
-pub loop-place-preserved : goal.loop-place-preserved
-loop-place-preserved c =
-    let e = front_some c.args.places.now c.loop-place.place-index c.place-item.result _
-    (omega arith) c.in-Some.is in
-    search rules
-
-pub returns : goal.returns
-returns c =
-    let e = front_all c.args.places.now c.loop-place.place-index (omega arith) in
-    search rules
+pub returns-clause-value : goal.returns-clause-value
+returns-clause-value c =
+    let ps = c.args.letters.now in
+    c.unwrap_or.ensures ∙ ap (unwrap_or c.position.result) (sym c.told-letters) ∙
+    first_missing ps _
+    (position_from_yields_List is_none _ _ _ c.position.ensures.ran (YieldsList-from_slice ps (cc)) (λ x b q k. search rules))

@@ -7,4 +7,4 @@ pub returns : goal.returns
 unfolding is_accepted
 returns c =
     let o = c.args.self.now in
-    c.is_accepted_at.ensures ∙ sym (accepted_contents o.delivered o.places c.args.number)
+    c.is_accepted.ensures ∙ sym (accepted_contents o.places.delivered o.places.letters c.args.number)

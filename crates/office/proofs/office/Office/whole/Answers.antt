@@ -11,6 +11,7 @@ returns c =
     let o = c.args.self.now in
     let value : c.is_whole_at.result ≡ is_whole (seen o)
     = c.is_whole_at.ensures
-    ∙ ap (λ n. is_over o.state && leb o.last (o.delivered + n))
-    (c.front.ensures.value ∙ sym (front_contents o.places)) in
+    ∙ (ap (λ m. is_over o.state && leb m c.reached.result) c.last_of.ensures
+    ∙ ap (λ n. is_over o.state && leb (seen o).last n)
+    (c.reached.ensures ∙ ap (λ n. o.places.delivered + n) (sym (front_contents o.places.letters)))) in
     record { value = value; law = law_from (seen o) (sound_seen o).eight _ value }

@@ -1,17 +1,15 @@
-use Rattle.std.proofs.Common.{sym, ◌∙◌, arith}
+use Rattle.std.proofs.Common.{◌∙◌, arith}
 use Rattle.frame.specs.Listed.{listed}
-use Rattle.office.specs.Destinations.{ranges_of}
 use Rattle.office.proofs.Naming.{going_on, going_out, follows_at, follows_out}
 use Rattle.office.proofs.RunLaws.{at_most_five, apart}
-use Rattle.office.proofs.Views.{runs_contents}
-use Rattle.office.proofs.office.Office.ranges.Goals as goal
+use Rattle.office.proofs.places.Places.ranges.Goals as goal
 
 pub name_ended-requires : goal.name_ended-requires
 name_ended-requires c free lt =
     let o = c.args.self.now in
-    follows_at o.delivered o.places
-    (at_most_five o.delivered o.places o.eight o.counted o.numbered)
-    (apart o.delivered o.places o.eight o.counted o.numbered)
+    follows_at o.delivered o.letters
+    (at_most_five o.delivered o.letters o.eight o.counted o.numbered)
+    (apart o.delivered o.letters o.eight o.counted o.numbered)
     c.loop-place.place-index (listed c.loop-place.ranges)
     c.loop-place.lower c.loop-place.next
     c.place-item.result (omega arith) free c.loop-place.invariant lt
@@ -20,25 +18,23 @@ pub loop-place-preserved : goal.loop-place-preserved
 loop-place-preserved c =
     let o = c.args.self.now in
     rw (c.name_ended.ensures, c.start_past-lower.ensures)
-    (going_on o.delivered o.places c.loop-place.place-index (listed c.loop-place.ranges)
+    (going_on o.delivered o.letters c.loop-place.place-index (listed c.loop-place.ranges)
     c.loop-place.lower c.loop-place.next c.place-item.result (omega arith)
     c.loop-place.invariant)
 
 pub name_run-requires : goal.name_run-requires
 name_run-requires c lt =
     let o = c.args.self.now in
-    follows_out o.delivered o.places
-    (at_most_five o.delivered o.places o.eight o.counted o.numbered)
-    (apart o.delivered o.places o.eight o.counted o.numbered)
+    follows_out o.delivered o.letters
+    (at_most_five o.delivered o.letters o.eight o.counted o.numbered)
+    (apart o.delivered o.letters o.eight o.counted o.numbered)
     c.loop-place.place-index (listed c.loop-place.ranges)
     c.loop-place.lower c.loop-place.next
     (omega arith) c.loop-place.invariant lt
 
 pub returns : goal.returns
-unfolding ranges_of
 returns c =
     let o = c.args.self.now in
     c.name_run.ensures
-    ∙ going_out o.delivered o.places c.loop-place.place-index (listed c.loop-place.ranges)
+    ∙ going_out o.delivered o.letters c.loop-place.place-index (listed c.loop-place.ranges)
     c.loop-place.lower c.loop-place.next (omega arith) c.loop-place.invariant
-    ∙ sym (runs_contents 1 _ o.places)
