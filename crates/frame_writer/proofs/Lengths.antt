@@ -8,7 +8,7 @@ use Rattle.frame.specs.Ascending.{ascending, starts_at}
 use Rattle.frame.specs.Bounds.{IsIdentifier, IsNumber}
 use Rattle.frame.specs.Meanings.{Meaning, create_sequence, create_sequence_response, sequence, ack_requested, sequence_acknowledgement, close_sequence, close_sequence_response, terminate_sequence, terminate_sequence_response, sequence_fault}
 use Rattle.frame.specs.Meanings.{FaultMeaning, unknown_sequence, sequence_terminated, sequence_closed, create_sequence_refused, IsFault, IsLast, IsReceipt, Proper}
-use Rattle.frame.specs.Meanings.{meaning}
+use Rattle.frame.specs.Meanings.{meaning, LetterFits}
 use Rattle.frame.specs.declared.frame.Frame.{Frame}
 use Rattle.frame.specs.declared.frame.Frame.TheVariants as frame
 use Rattle.frame.specs.declared.range.Range.{Range}
@@ -17,6 +17,8 @@ use Rattle.frame.proofs.Propriety.{proper_frame}
 use Rattle.pieces.specs.Attributes.{range_text}
 use Rattle.pieces.specs.Tags.{tag_text}
 use Rattle.pieces.proofs.Letters.{length_hex}
+use Rattle.frame_writer.specs.Putting.{Puts, Writes}
+use Rattle.grammar.proofs.Theorem.{apart}
 use Rattle.grammar.specs.Texts.{identifier_text, last_text, range_texts, ranges_text, final_text, receipt_text, detail_text, fault_text, text}
 
 number_most : (m : ℕ) → IsNumber m → length (decimal m) ≤ 19
@@ -102,3 +104,16 @@ most_of_frame (frame.CloseSequenceResponse r) = most _ (proper_frame (frame.Clos
 most_of_frame (frame.TerminateSequence i last) = most _ (proper_frame (frame.TerminateSequence i last) tt)
 most_of_frame (frame.TerminateSequenceResponse r) = most _ (proper_frame (frame.TerminateSequenceResponse r) tt)
 most_of_frame (frame.SequenceFault f) = most _ (proper_frame (frame.SequenceFault f) tt)
+
+-- what was put into the front of memory was written
+pub writes : (f : Frame) (before after : List ℕ) (len : ℕ) → LetterFits (meaning f) → Puts before (text (meaning f)) after len
+    → Writes (meaning f) before after len
+writes f before after len l p =
+    let h = proper_frame f l in
+    record {
+      proper = h;
+      size = p.size;
+      bound = omega (arith, p.size, most (meaning f) h);
+      bytes = p.bytes;
+      alone = λ other i t. apart other (meaning f) i h t;
+    }

@@ -10,6 +10,7 @@ use frame::Frame;
 use pieces::{Element, Tag};
 
 // Writes the text of the frame into the front of `out`, and answers its length.
+#[tactic(auto, using(crate::proofs::Lengths::most_of_frame))]
 pub fn write(frame: &Frame, out: &mut [u8; 800]) -> usize
     ensures { Writes (meaning frame.now) out.old out.new result }
 {
