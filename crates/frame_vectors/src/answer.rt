@@ -8,9 +8,9 @@ use std::fmt;
 
 #[derive(Clone, Copy)]
 pub enum Answer {
-    // A frame was read, and its text is the line's.
+    // The bytes are the text of this frame.
     Read(Frame),
-    // A frame was read that was written otherwise.
+    // This frame was read, and its text is another.
     Otherwise(Frame),
     Refused(ReadFault),
 }

@@ -23,7 +23,7 @@ impl fmt::Display for Said {
                 write!(f, " {id} n={n} letter={letter}")
             }
             Frame::SequenceAcknowledgement { receipt, is_final } => {
-                write!(f, " {}", Named(receipt, is_final))
+                write!(f, " {}", Received(receipt, is_final))
             }
             Frame::CloseSequence { identifier, last }
             | Frame::TerminateSequence { identifier, last } => {
@@ -32,7 +32,7 @@ impl fmt::Display for Said {
             }
             Frame::CloseSequenceResponse { receipt }
             | Frame::TerminateSequenceResponse { receipt } => {
-                write!(f, " {}", Named(receipt, true))
+                write!(f, " {}", Received(receipt, true))
             }
             Frame::SequenceFault { fault } => write!(f, " {}", Complaint(fault)),
         }
@@ -60,11 +60,11 @@ impl fmt::Display for Digits<'_> {
 
 // A receipt, and whether it is final.
 #[derive(Clone, Copy)]
-struct Named(Receipt, bool);
+struct Received(Receipt, bool);
 
-impl fmt::Display for Named {
+impl fmt::Display for Received {
     fn fmt<W: fmt::Write>(&self, f: &mut fmt::Formatter<W>) -> fmt::Result {
-        let Named(receipt, is_final) = *self;
+        let Received(receipt, is_final) = *self;
         let id = Id(receipt.identifier);
         let ranges = Spans(receipt.ranges.as_slice());
         let last = if is_final { "yes" } else { "no" };
@@ -73,6 +73,7 @@ impl fmt::Display for Named {
     }
 }
 
+// Ranges, from the lowest on.
 #[derive(Clone, Copy)]
 struct Spans<'a>(&'a [Range]);
 
@@ -89,6 +90,7 @@ impl fmt::Display for Spans<'_> {
     }
 }
 
+// A fault's name, and the sequence that it is about.
 #[derive(Clone, Copy)]
 struct Complaint(Fault);
 

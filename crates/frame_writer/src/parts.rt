@@ -35,7 +35,7 @@ impl Text for u8 {
     }
 }
 
-// By hand: the library `hex` writes 0-9a-f alone into memory, and a `{b:02X}` may fail by its contract.
+// One of 0-9A-F. By hand, since a `{b:02X}` may fail by its contract (tried), and `hex` writes 0-9a-f into memory.
 fn hex_digit(d: u8) -> u8
     requires { d < 16 }
     ensures { result ≡ hex_char d }

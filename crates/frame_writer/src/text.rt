@@ -6,7 +6,7 @@ ghost use Rattle.pieces.specs.Tags.{tag_text};
 
 use pieces::{Element, Tag};
 
-// What has a text.
+// What has a text. `Display` was tried in its place: by its contract a `write!` may fail, and `write` never does.
 pub(crate) trait Text {
     ghost text: { Self → List ℕ };
 
