@@ -2,15 +2,23 @@
 use Rattle.std.proofs.Common.{◌≡◌, ℕ, ◌+◌, ◌*◌, ◌≤◌, Bool, true, false, List, [], ◌∷◌, length, Some, None, decimal, Option, arith, lit<, length-append}
 use Rattle.std.proofs.lemmas.Fmt.{length-decimal-le}
 use Rattle.std.proofs.lemmas.Bool.{and_parts}
+use Rattle.std.proofs.lemmas.List.{length-take-le}
+use Rattle.letter.specs.Letters.{content}
 use Rattle.frame.specs.Ascending.{ascending, starts_at}
 use Rattle.frame.specs.Bounds.{IsIdentifier, IsNumber}
 use Rattle.frame.specs.Meanings.{Meaning, create_sequence, create_sequence_response, sequence, ack_requested, sequence_acknowledgement, close_sequence, close_sequence_response, terminate_sequence, terminate_sequence_response, sequence_fault}
 use Rattle.frame.specs.Meanings.{FaultMeaning, unknown_sequence, sequence_terminated, sequence_closed, create_sequence_refused, IsFault, IsLast, IsReceipt, Proper}
+use Rattle.frame.specs.Meanings.{meaning, LetterFits}
+use Rattle.frame.specs.declared.frame.Frame.{Frame}
+use Rattle.frame.specs.declared.frame.Frame.TheVariants as frame
 use Rattle.frame.specs.declared.range.Range.{Range}
 use Rattle.frame.proofs.Ascents.{starts}
+use Rattle.frame.proofs.Propriety.{proper_frame}
 use Rattle.pieces.specs.Attributes.{range_text}
 use Rattle.pieces.specs.Tags.{tag_text}
 use Rattle.pieces.proofs.Letters.{length_hex}
+use Rattle.frame_writer.specs.Putting.{Puts, Writes}
+use Rattle.grammar.proofs.Theorem.{apart}
 use Rattle.grammar.specs.Texts.{identifier_text, last_text, range_texts, ranges_text, final_text, receipt_text, detail_text, fault_text, text}
 
 number_most : (m : ℕ) → IsNumber m → length (decimal m) ≤ 19
@@ -66,11 +74,15 @@ fault_most (sequence_terminated n) h = simp length-append (omega (arith, detail_
 fault_most (sequence_closed n) h = simp length-append (omega (arith, detail_most n h))
 fault_most create_sequence_refused h = simp length-append (omega arith)
 
+sequence_most : (n m : ℕ) (bs : List ℕ) → IsIdentifier n → IsNumber m → length bs ≤ 48 → length (text (sequence n m bs)) ≤ 709
+unfolding text tag_text
+sequence_most n m bs i j h = simp length-append (omega (arith, identifier_most n i, number_most m j, length_hex bs))
+
 pub most : (m : Meaning) → Proper m → length (text m) ≤ 709
 unfolding text tag_text Proper
 most create_sequence h = omega arith
 most (create_sequence_response n) h = simp length-append (omega (arith, identifier_most n h))
-most (sequence n m bs) h = simp length-append (omega (arith, identifier_most n h.0, number_most m h.1, length_hex bs))
+most (sequence n m bs) h = sequence_most n m bs h.0 h.1 h.2.1
 most (ack_requested n) h = simp length-append (omega (arith, identifier_most n h))
 most (sequence_acknowledgement n rs final c) h = omega (arith, receipt_most n rs final c h)
 most (close_sequence n last) h = simp length-append (omega (arith, identifier_most n h.0, last_most last h.1))
@@ -78,3 +90,30 @@ most (close_sequence_response n rs c) h = simp length-append (omega (arith, rece
 most (terminate_sequence n last) h = simp length-append (omega (arith, identifier_most n h.0, last_most last h.1))
 most (terminate_sequence_response n rs c) h = simp length-append (omega (arith, receipt_most n rs true c h, identifier_most n h.0))
 most (sequence_fault f) h = simp length-append (omega (arith, fault_most f h))
+
+-- no frame of the code has a longer one
+pub most_of_frame : (f : Frame) → length (text (meaning f)) ≤ 709
+most_of_frame frame.CreateSequence = most _ (proper_frame frame.CreateSequence tt)
+most_of_frame (frame.CreateSequenceResponse i) = most _ (proper_frame (frame.CreateSequenceResponse i) tt)
+most_of_frame (frame.Sequence i m l) =
+    sequence_most i.value m.value (content l) (i.low, i.high) (m.low, m.high) (omega (arith, l.few, length-take-le l.len l.bytes (omega (arith, l.few, l.whole))))
+most_of_frame (frame.AckRequested i) = most _ (proper_frame (frame.AckRequested i) tt)
+most_of_frame (frame.SequenceAcknowledgement r final) = most _ (proper_frame (frame.SequenceAcknowledgement r final) tt)
+most_of_frame (frame.CloseSequence i last) = most _ (proper_frame (frame.CloseSequence i last) tt)
+most_of_frame (frame.CloseSequenceResponse r) = most _ (proper_frame (frame.CloseSequenceResponse r) tt)
+most_of_frame (frame.TerminateSequence i last) = most _ (proper_frame (frame.TerminateSequence i last) tt)
+most_of_frame (frame.TerminateSequenceResponse r) = most _ (proper_frame (frame.TerminateSequenceResponse r) tt)
+most_of_frame (frame.SequenceFault f) = most _ (proper_frame (frame.SequenceFault f) tt)
+
+-- what was put into the front of memory was written
+pub writes : (f : Frame) (before after : List ℕ) (len : ℕ) → LetterFits (meaning f) → Puts before (text (meaning f)) after len
+    → Writes (meaning f) before after len
+writes f before after len l p =
+    let h = proper_frame f l in
+    record {
+      proper = h;
+      size = p.size;
+      bound = omega (arith, p.size, most (meaning f) h);
+      bytes = p.bytes;
+      alone = λ other i t. apart other (meaning f) i h t;
+    }

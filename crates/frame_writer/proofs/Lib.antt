@@ -1,4 +1,2 @@
-pub mod Joins
 pub mod Written
 pub mod Lengths
-pub mod Whole

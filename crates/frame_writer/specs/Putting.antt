@@ -1,19 +1,18 @@
 -- What the writing functions leave in memory. Only `Writes` is for others: the front of the memory is the frame's text,
 -- and everything behind it is as before.
-use Rattle.std.specs.Prelude.{◌≡◌, ℕ, ◌+◌, ◌≤◌, List, ◌++◌, length, take, drop, Some, None, Option}
+use Rattle.std.specs.Prelude.{◌≡◌, ℕ, ◌≤◌, List, [], ◌++◌, length, drop, Some, None, Option}
 use Rattle.frame.specs.Meanings.{Meaning, Proper}
 use Rattle.grammar.specs.Texts.{text}
 
--- `part` stands at `at` if there was room for it, `end` is behind it, and the rest of the memory is as before
-pub record Puts (before : List ℕ) (at : ℕ) (part after : List ℕ) (end : ℕ) : Type 0 where
-  pub size : length after ≡ length before
-  pub ends : at + length part ≤ length before → end ≡ at + length part
-  pub bytes : at + length part ≤ length before → after ≡ take at before ++ (part ++ drop (at + length part) before)
+-- the text of what is there, or nothing
+abbrev pub text_if_any : {T : Type 0} → (T → List ℕ) → Option T → List ℕ
+text_if_any text (Some x) = text x
+text_if_any text None = []
 
--- the part stands at `at` if there is one; else nothing is written
-abbrev pub PutsAny : (before : List ℕ) (at : ℕ) → Option (List ℕ) → (after : List ℕ) (end : ℕ) → Type 0
-PutsAny before at (Some part) after end = Puts before at part after end
-PutsAny before at None after end = (after ≡ before) × (end ≡ at)
+-- the part stands in front, and everything behind it is as before
+pub record Puts (before part after : List ℕ) (len : ℕ) : Type 0 where
+  pub size : len ≡ length part
+  pub bytes : after ≡ part ++ drop len before
 
 -- every frame of the code is proper; its text stands in front, is at most 709 bytes long, and is no other frame's
 pub record Writes (m : Meaning) (before after : List ℕ) (len : ℕ) : Type 0 where

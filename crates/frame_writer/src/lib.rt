@@ -1,8 +1,8 @@
 // Writing frames.
 #![tactic(auto)]
 
-mod buffer;
 mod forms;
 mod parts;
+mod text;
 
 pub use forms::write;

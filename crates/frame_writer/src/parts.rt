@@ -1,181 +1,153 @@
-// Parts of a frame that stand in several forms.
-ghost use Rattle.std.specs.Prelude.{◌≡◌, ◌++◌, decimal};
+// The values that stand in frames, each with its text.
+ghost use Rattle.std.specs.Prelude.{◌≡◌, ◌<◌, ◌++◌, ◌∷◌, [], ◌/◌, ◌%◌, decimal};
 ghost use Rattle.std.specs.Option.{option_map};
 ghost use Rattle.frame.specs.Listed.{listed};
-ghost use Rattle.frame.specs.Meanings.{fault_meaning};
-ghost use Rattle.frame_writer.specs.Chosen.{bounds_text, code_of, final_mark, last_number};
-ghost use Rattle.frame_writer.specs.Putting.{Puts, PutsAny};
-ghost use Rattle.grammar.specs.Texts.{enclosed, identifier_text, last_text, range_texts, ranges_text, final_text, receipt_text, detail_text, fault_text};
+ghost use Rattle.frame.specs.Meanings.{fault_meaning, AllBytes};
+ghost use Rattle.frame_writer.specs.Putting.{text_if_any};
+ghost use Rattle.grammar.specs.Texts.{enclosed, identifier_text, last_text, ranges_text, final_text, receipt_text, detail_text, fault_text};
 ghost use Rattle.pieces.specs.Attributes.{range_text};
-ghost use Rattle.pieces.specs.Names.{element_name, fault_name};
+ghost use Rattle.pieces.specs.Hex.{hex_char, hex_text};
+ghost use Rattle.pieces.specs.Names.{fault_name};
 ghost use Rattle.pieces.specs.Tags.{tag_text};
 ghost use Rattle.pieces.specs.declared.names.Element.TheVariants as element;
 
-use crate::buffer::{put, put_decimal};
-use frame::{Fault, Identifier, Number, Range, Receipt};
+use crate::text::{Each, Enclosed, Text};
+use frame::{Fault, Identifier, Number, Range, Ranges, Receipt};
+use itoa::Buffer;
 use pieces::{Element, FaultCode, Tag};
 
-pub(crate) fn put_tag(out: &mut [u8], at: usize, tag: Tag) -> usize
-    ensures { Puts out.old at (tag_text tag) out.new result }
-{
-    match tag {
-        Tag::Open(e) => put_marks(out, at, b"<", e, b">"),
-        Tag::Close(e) => put_marks(out, at, b"</", e, b">"),
-        Tag::Empty(e) => put_marks(out, at, b"<", e, b"/>"),
+// A number in decimal.
+impl Text for u64 {
+    ghost text = { decimal };
+
+    fn put(self, out: &mut [u8]) -> usize {
+        Buffer::new().format(self).put(out)
     }
 }
 
-// The name of the element between two marks.
-fn put_marks(out: &mut [u8], at: usize, before: &[u8], e: Element, behind: &[u8]) -> usize
-    ensures { Puts out.old at (before.now ++ (element_name e ++ behind.now)) out.new result }
-{
-    let at = put(out, at, before);
-    let at = put(out, at, e.name());
-    put(out, at, behind)
-}
+// A byte of a letter, as two of 0-9A-F.
+impl Text for u8 {
+    ghost text = { λ b. hex_char (b / 16) ∷ hex_char (b % 16) ∷ [] };
 
-pub(crate) fn put_identifier(out: &mut [u8], at: usize, identifier: Identifier) -> usize
-    ensures { Puts out.old at (identifier_text identifier.value) out.new result }
-{
-    let at = put_tag(out, at, Tag::Open(Element::Identifier));
-    let at = put(out, at, b"urn:path:");
-    let at = put_decimal(out, at, u64::from(identifier.get()));
-    put_tag(out, at, Tag::Close(Element::Identifier))
-}
-
-// The identifier alone in an element.
-pub(crate) fn put_naming(out: &mut [u8], at: usize, e: Element, identifier: Identifier) -> usize
-    ensures { Puts out.old at (enclosed e (identifier_text identifier.value)) out.new result }
-{
-    let at = put_tag(out, at, Tag::Open(e));
-    let at = put_identifier(out, at, identifier);
-    put_tag(out, at, Tag::Close(e))
-}
-
-pub(crate) fn put_number(out: &mut [u8], at: usize, e: Element, number: Number) -> usize
-    ensures { Puts out.old at (enclosed e (decimal number.value)) out.new result }
-{
-    let at = put_tag(out, at, Tag::Open(e));
-    let at = put_decimal(out, at, number.get());
-    put_tag(out, at, Tag::Close(e))
-}
-
-pub(crate) fn put_last(out: &mut [u8], at: usize, last: Option<Number>) -> usize
-    ensures { Puts out.old at (last_text (option_map (λ m. m.value) last)) out.new result }
-{
-    put_last_number(out, at, last)
-}
-
-fn put_last_number(out: &mut [u8], at: usize, last: Option<Number>) -> usize
-    ensures { PutsAny out.old at (last_number last) out.new result }
-{
-    match last {
-        Some(m) => put_number(out, at, Element::LastMsgNumber, m),
-        None => at,
+    fn put(self, out: &mut [u8]) -> usize {
+        let digits = [hex_digit(self / 16), hex_digit(self % 16)];
+        digits.as_slice().put(out)
     }
 }
 
-fn put_range(out: &mut [u8], at: usize, range: Range) -> usize
-    ensures { Puts out.old at (range_text range) out.new result }
+// One of 0-9A-F. By hand, since a `{b:02X}` may fail by its contract (tried), and `hex` writes 0-9a-f into memory.
+fn hex_digit(d: u8) -> u8
+    requires { d < 16 }
+    ensures { result ≡ hex_char d }
 {
-    put_bounds(out, at, range.upper, range.lower)
+    b"0123456789ABCDEF"[usize::from(d)]
 }
 
-fn put_bounds(out: &mut [u8], at: usize, upper: u64, lower: u64) -> usize
-    ensures { Puts out.old at (bounds_text upper lower) out.new result }
+// Bytes, each in hex.
+#[tactic(auto, using(crate::proofs::Written::hex_pairs))]
+pub(crate) fn hex(bytes: &[u8]) -> Each<'_, u8>
+    ensures text { ⟦<Each<'static, u8> as Text>⟧.text result ≡ hex_text bytes.now }
+    ensures fits { AllBytes bytes.now }
 {
-    let at = put(out, at, b"<wsrm:AcknowledgementRange Upper=\"");
-    let at = put_decimal(out, at, upper);
-    let at = put(out, at, b"\" Lower=\"");
-    let at = put_decimal(out, at, lower);
-    put(out, at, b"\"/>")
+    Each(bytes)
 }
 
-fn put_each(out: &mut [u8], at: usize, ranges: &[Range]) -> usize
-    ensures { Puts out.old at (range_texts ranges.now) out.new result }
-{
-    let mut end = at;
-    for range in ranges {
-        end = put_range(out, end, *range);
+#[tactic(auto, unfolding(grammar::specs::Texts::identifier_text))]
+impl Text for Identifier {
+    ghost text = { λ i. identifier_text i.value };
+
+    fn put(self, out: &mut [u8]) -> usize {
+        Enclosed(Element::Identifier, ("urn:path:", self.get())).put(out)
     }
-    end
+}
+
+impl Text for Number {
+    ghost text = { λ m. decimal m.value };
+
+    fn put(self, out: &mut [u8]) -> usize {
+        self.get().put(out)
+    }
+}
+
+// The last number, if there is one.
+#[tactic(auto, unfolding(grammar::specs::Texts::last_text))]
+pub(crate) fn last_number(last: Option<Number>) -> Option<Enclosed<Number>>
+    ensures { ⟦<Option<Enclosed<Number>> as Text>⟧.text result ≡ last_text (option_map (λ m. m.value) last) }
+{
+    last.map(|m| Enclosed(Element::LastMsgNumber, m))
+}
+
+#[tactic(auto, unfolding(pieces::specs::Attributes::range_text))]
+impl Text for Range {
+    ghost text = { range_text };
+
+    fn put(self, out: &mut [u8]) -> usize {
+        let lower = ("\" Lower=\"", (self.lower, "\"/>"));
+        ("<wsrm:AcknowledgementRange Upper=\"", (self.upper, lower)).put(out)
+    }
 }
 
 // The ranges of a receipt, or that there are none.
-fn put_ranges(out: &mut [u8], at: usize, ranges: &[Range]) -> usize
-    ensures { Puts out.old at (ranges_text ranges.now) out.new result }
-{
-    if ranges.is_empty() {
-        return put_tag(out, at, Tag::Empty(Element::Nothing));
-    }
-    put_each(out, at, ranges)
-}
+#[tactic(auto, using(crate::proofs::Written::ranges_some), unfolding(grammar::specs::Texts::ranges_text))]
+impl Text for Ranges {
+    ghost text = { λ r. ranges_text (listed r) };
 
-fn put_final(out: &mut [u8], at: usize, is_final: bool) -> usize
-    ensures { Puts out.old at (final_text is_final) out.new result }
-{
-    put_final_mark(out, at, is_final)
-}
-
-fn put_final_mark(out: &mut [u8], at: usize, is_final: bool) -> usize
-    ensures { PutsAny out.old at (final_mark is_final) out.new result }
-{
-    if is_final {
-        put_tag(out, at, Tag::Empty(Element::Final))
-    } else {
-        at
+    fn put(self, out: &mut [u8]) -> usize {
+        match self.as_slice() {
+            [] => Tag::Empty(Element::Nothing).put(out),
+            ranges => Each(ranges).put(out),
+        }
     }
 }
 
-pub(crate) fn put_receipt(out: &mut [u8], at: usize, receipt: Receipt, is_final: bool) -> usize
-    ensures { Puts out.old at
-        (receipt_text receipt.identifier.value (listed receipt.ranges) is_final receipt.credit.value)
-        out.new result }
-{
-    let at = put_tag(out, at, Tag::Open(Element::SequenceAcknowledgement));
-    let at = put_identifier(out, at, receipt.identifier);
-    let at = put_ranges(out, at, receipt.ranges.as_slice());
-    let at = put_final(out, at, is_final);
-    let at = put_number(out, at, Element::Credit, receipt.credit);
-    put_tag(out, at, Tag::Close(Element::SequenceAcknowledgement))
-}
+// A receipt, and whether it is final.
+pub(crate) struct Acknowledgement(pub(crate) Receipt, pub(crate) bool);
 
-fn put_code(out: &mut [u8], at: usize, code: FaultCode) -> usize
-    ensures { Puts out.old at (enclosed element.FaultCode (fault_name code)) out.new result }
-{
-    let at = put_tag(out, at, Tag::Open(Element::FaultCode));
-    let at = put(out, at, code.name());
-    put_tag(out, at, Tag::Close(Element::FaultCode))
-}
+#[tactic(auto, unfolding(grammar::specs::Texts::receipt_text, grammar::specs::Texts::final_text))]
+impl Text for Acknowledgement {
+    ghost text = { λ a. receipt_text a.0.identifier.value (listed a.0.ranges) a.1 a.0.credit.value };
 
-// A fault about a sequence.
-fn put_about(out: &mut [u8], at: usize, code: FaultCode, identifier: Identifier) -> usize
-    ensures { Puts out.old at (enclosed element.FaultCode (fault_name code) ++ detail_text identifier.value) out.new result }
-{
-    let at = put_code(out, at, code);
-    put_naming(out, at, Element::Detail, identifier)
-}
-
-// The name under which the fault goes.
-fn code_of(fault: Fault) -> FaultCode
-    ensures { result ≡ code_of fault }
-{
-    match fault {
-        Fault::UnknownSequence(_) => FaultCode::UnknownSequence,
-        Fault::SequenceTerminated(_) => FaultCode::SequenceTerminated,
-        Fault::SequenceClosed(_) => FaultCode::SequenceClosed,
-        Fault::CreateSequenceRefused => FaultCode::CreateSequenceRefused,
+    fn put(self, out: &mut [u8]) -> usize {
+        let Acknowledgement(receipt, is_final) = self;
+        let mark = is_final.then_some(Tag::Empty(Element::Final));
+        let behind = (mark, Enclosed(Element::Credit, receipt.credit));
+        let parts = (receipt.identifier, (receipt.ranges, behind));
+        Enclosed(Element::SequenceAcknowledgement, parts).put(out)
     }
 }
 
-pub(crate) fn put_fault(out: &mut [u8], at: usize, fault: Fault) -> usize
-    ensures { Puts out.old at (fault_text (fault_meaning fault)) out.new result }
-{
-    let code = code_of(fault);
-    match fault {
-        Fault::UnknownSequence(identifier) => put_about(out, at, code, identifier),
-        Fault::SequenceTerminated(identifier) => put_about(out, at, code, identifier),
-        Fault::SequenceClosed(identifier) => put_about(out, at, code, identifier),
-        Fault::CreateSequenceRefused => put_code(out, at, code),
+impl Text for FaultCode {
+    ghost text = { fault_name };
+
+    fn put(self, out: &mut [u8]) -> usize {
+        self.name().put(out)
     }
+}
+
+#[tactic(auto, unfolding(grammar::specs::Texts::fault_text))]
+impl Text for Fault {
+    ghost text = { λ f. fault_text (fault_meaning f) };
+
+    fn put(self, out: &mut [u8]) -> usize {
+        match self {
+            Fault::UnknownSequence(i) => about(FaultCode::UnknownSequence, i).put(out),
+            Fault::SequenceTerminated(i) => about(FaultCode::SequenceTerminated, i).put(out),
+            Fault::SequenceClosed(i) => about(FaultCode::SequenceClosed, i).put(out),
+            Fault::CreateSequenceRefused => {
+                Enclosed(Element::FaultCode, FaultCode::CreateSequenceRefused).put(out)
+            }
+        }
+    }
+}
+
+// A fault's name, and the sequence that it is about.
+#[tactic(auto, unfolding(grammar::specs::Texts::detail_text))]
+fn about(code: FaultCode, identifier: Identifier) -> (Enclosed<FaultCode>, Enclosed<Identifier>)
+    ensures { ⟦<(Enclosed<FaultCode>, Enclosed<Identifier>) as Text>⟧.text result
+        ≡ enclosed element.FaultCode (fault_name code) ++ detail_text identifier.value }
+{
+    (
+        Enclosed(Element::FaultCode, code),
+        Enclosed(Element::Detail, identifier),
+    )
 }
