@@ -1,7 +1,7 @@
 // The calls of the two ends, each by its first letter.
-use crate::shows::{frame_text, office_state, planner_state, refusal};
+use crate::shows::{frame_text, refusal};
 use crate::words::{cut, number, small};
-use frame::Frame;
+use frame::{Frame, Number};
 use office::Office;
 use planner::{Draft, Planner, PlannerRefusal, Settings};
 use std::alloc::{AllocError, Global};
@@ -14,10 +14,8 @@ pub struct Ends {
 
 impl Ends {
     pub fn new(identifier: u64, gap: u64, limit: u64, admits: bool) -> Option<Ends> {
-        match Settings::new(identifier, gap, limit, admits) {
-            Ok(settings) => Some(ends_of(&settings)),
-            Err(_) => None,
-        }
+        let settings = Settings::new(identifier, gap, limit, admits).ok()?;
+        Some(ends_of(&settings))
     }
 
     pub fn call(&mut self, heap: Global, line: &[u8]) -> Result<String, AllocError> {
@@ -75,8 +73,7 @@ impl Ends {
         match Draft::new(small(train), small(section), small(enter), small(leave)) {
             Ok(draft) => match self.planner.post(draft) {
                 Ok(number) => numbered(heap, Ok(number)),
-                Err(back) => {
-                    let (why, draft) = back;
+                Err((why, draft)) => {
                     draft.tear();
                     refusal(heap, why)
                 }
@@ -132,10 +129,7 @@ impl Ends {
 
     // Counts the next letter as delivered, and shows its length.
     fn deliver(&mut self, heap: Global) -> Result<String, AllocError> {
-        let len = match self.office.next() {
-            Some(letter) => letter.as_slice().len(),
-            None => 0,
-        };
+        let len = self.office.next().map_or(0, |letter| letter.as_slice().len());
         match self.office.delivered() {
             Some(number) => format!(in heap; "{number} of {len} bytes"),
             None => String::from_str(heap, "nothing"),
@@ -144,42 +138,41 @@ impl Ends {
 
     // What the two ends keep, by their questions.
     pub fn kept(&self, heap: Global) -> Result<String, AllocError> {
-        let state = planner_state(self.planner.state());
+        let state = self.planner.state();
         let written = self.planner.written();
         let lowest = self.planner.lowest();
         let credit = self.planner.credit();
         let receipts = self.receipts(heap, lowest)?;
         let office = self.kept_by_office(heap)?;
         format!(in heap;
-            "{state} N={written} b={lowest} credit={credit} receipts={receipts} {office}"
+            "{state:?} N={written} b={lowest} credit={credit} receipts={receipts} {office}"
         )
     }
 
     fn receipts(&self, heap: Global, lowest: u64) -> Result<String, AllocError> {
         let mut text = String::new(heap);
-        for k in 0..8u64 {
-            let n = lowest.saturating_add(k);
-            text.push(if self.planner.has_receipt(n) {
-                '1'
-            } else {
-                '0'
-            })?;
+        for n in lowest..lowest.saturating_add(8) {
+            text.push(mark(self.planner.has_receipt(n)))?;
         }
         Ok(text)
     }
 
     fn kept_by_office(&self, heap: Global) -> Result<String, AllocError> {
-        let state = office_state(self.office.state());
+        let state = self.office.state();
         let d = self.office.highest_delivered();
         let mut accepted = String::new(heap);
-        for k in 1..9u64 {
-            let n = d.saturating_add(k);
-            accepted.push(if self.office.is_accepted(n) { '1' } else { '0' })?;
+        for n in d.saturating_add(1)..d.saturating_add(9) {
+            accepted.push(mark(self.office.is_accepted(n)))?;
         }
-        let last = self.office.last();
+        let last = self.office.last().map_or(0, Number::get);
         let whole = self.office.whole();
-        format!(in heap; "{state} d={d} accepted={accepted} last={last} whole={whole}")
+        format!(in heap; "{state:?} d={d} accepted={accepted} last={last} whole={whole}")
     }
+}
+
+// A digit for yes or no.
+fn mark(is: bool) -> char {
+    if is { '1' } else { '0' }
 }
 
 fn ends_of(settings: &Settings) -> Ends {

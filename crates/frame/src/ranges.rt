@@ -9,7 +9,7 @@ mod list;
 pub const MOST: usize = 5;
 
 // The ranges of a receipt: at most five, ascending, each two or more above the one before it;
-// the first `count` of `list`.
+// the first `count` of `list`. An array with a count: a frame needs no heap and is copied, which an `ArrayVec` is not.
 #[derive(Clone, Copy)]
 pub struct Ranges {
     list: [Range; MOST],

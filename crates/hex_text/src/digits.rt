@@ -2,6 +2,7 @@ ghost use Rattle.std.specs.Prelude.{◌≡◌};
 ghost use Rattle.hex_text.specs.Hex.{digit_value, byte_of};
 
 // The value of a hex digit in either case; none for any other character.
+// A table: `to_digit` asks for a `char` and gives a `u32`, two conversions for these four lines.
 fn digit(c: u8) -> Option<u8>
     ensures { result ≡ digit_value c }
 {

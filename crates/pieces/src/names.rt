@@ -1,4 +1,4 @@
-// The names that stand in the text of frames.
+// The names that stand in the text of frames. Two tables, and no trait over them: they share a signature and no line.
 ghost use Rattle.std.specs.Prelude.{◌≡◌};
 ghost use Rattle.pieces.specs.Names.{element_name, fault_name};
 
