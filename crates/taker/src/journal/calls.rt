@@ -31,7 +31,7 @@ impl Journal {
         ensures { journal_page self.new ≡ journal_page self.old ++ entry letter.now }
     {
         self.numbers.push_reserved(letter.len() as u8);
-        let _ = self.numbers.extend_from_slice(letter);
+        self.numbers.extend_from_slice(letter).unwrap();
     }
 }
 
