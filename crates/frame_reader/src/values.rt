@@ -128,7 +128,7 @@ impl<'a> Reader<'a> {
         let Some((found, rest)) = self.next::<Identifier>() else {
             return Err(self.fault());
         };
-        if found.get() != identifier.get() {
+        if found != identifier {
             return Err(self.fault());
         }
         self.rest = rest;
