@@ -16,7 +16,7 @@ use letter::Letter;
 const PLACES: usize = 8;
 
 // The letters that are accepted and not delivered yet. Place k is that of message number delivered + 1 + k.
-// An array, and no ring: an end lies in memory of its own, is copied whole, and the places are eight.
+// An array by place: an end needs no heap and is copied, and the rules give a number its place by a difference.
 #[derive(Clone, Copy)]
 pub(crate) struct Places {
     // All message numbers up to this one are delivered.
@@ -117,13 +117,12 @@ impl Places {
     {
         let mut ranges = Ranges::new();
         let mut lower = 1;
-        let mut next = self.delivered + 1;
-        for place in &self.letters {
+        for (k, place) in self.letters.iter().enumerate() {
+            let next = self.delivered + 1 + k as u64;
             name_ended(&mut ranges, place, lower, next);
             lower = start_past(place, lower, next);
-            next += 1;
         }
-        name_run(&mut ranges, lower, next);
+        name_run(&mut ranges, lower, self.delivered + 9);
         ranges
     }
 }
