@@ -14,6 +14,7 @@ pub(crate) fn find(bytes: &[u8], b: u8) -> usize
 }
 
 // What comes behind the beginning, if that stands first.
+#[tactic(auto, unfolding(crate::specs::Strips::strip_of))]
 pub(crate) fn strip<'a>(part: &'a [u8], beginning: &[u8]) -> Option<&'a [u8]>
     ensures { option_map (λ x. x.now) result ≡ strip_of beginning.now part.now }
 {

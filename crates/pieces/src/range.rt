@@ -15,6 +15,7 @@ struct Field<'a> {
 }
 
 // The number that stands before the next quote.
+#[tactic(auto, unfolding(crate::specs::Attributes::field_of))]
 fn first_number(bytes: &[u8]) -> Option<Field<'_>>
     ensures { option_map (λ x. (x.number, x.rest.now)) result ≡ field_of bytes.now }
 {
@@ -24,6 +25,7 @@ fn first_number(bytes: &[u8]) -> Option<Field<'_>>
 }
 
 // The range whose tag this is, whatever its numbers.
+#[tactic(auto, unfolding(crate::specs::Attributes::range_read))]
 pub fn read_range(part: &[u8]) -> Option<Range>
     ensures { result ≡ range_read part.now }
 {
