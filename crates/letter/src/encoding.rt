@@ -13,12 +13,6 @@ pub fn encode_put(path: Path) -> [u8; 15]
     ensures value { result ≡ encoded (Put path) }
     ensures back { in_range (Put path) ≡ true → decoded result ≡ Some (Put path) }
 {
-    put_bytes(path)
-}
-
-fn put_bytes(path: Path) -> [u8; 15]
-    ensures { result ≡ encoded (Put path) }
-{
     let [t0, t1, t2, t3] = path.train.to_be_bytes();
     let [s0, s1] = path.section.to_be_bytes();
     let [e0, e1, e2, e3] = path.enter.to_be_bytes();
