@@ -6,7 +6,7 @@ use crate::state::PlannerState;
 use pieces::ReadFault;
 
 // Why the planner's end says no.
-#[derive(Clone, Copy)]
+#[derive(Clone, Copy, PartialEq, Eq, Debug)]
 pub enum PlannerRefusal {
     // write: no bytes, or more than 48
     LetterSize,

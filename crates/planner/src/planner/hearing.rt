@@ -31,14 +31,10 @@ impl Planner {
         ensures { acted self.new result ≡ hears (meaning frame) (source_of self.old) }
     {
         match about_sequence(frame) {
-            Some(identifier) => {
-                if self.holds(identifier) {
-                    self.heed(frame)
-                } else {
-                    Err(PlannerRefusal::Identifier(identifier.get() as u32))
-                }
+            Some(identifier) if !self.holds(identifier) => {
+                Err(PlannerRefusal::Identifier(identifier.get() as u32))
             }
-            None => self.heed(frame),
+            _ => self.heed(frame),
         }
     }
 
@@ -46,10 +42,7 @@ impl Planner {
         ensures value { result ≡ is_held (option_map (λ i. i.value) self.now.held) identifier.value }
         ensures created { result ≡ true → 2 ≤ rank self.now.state }
     {
-        match self.held {
-            Some(held) => identifier.get() == held.get(),
-            None => false,
-        }
+        self.held == Some(identifier)
     }
 
     // What the end makes of the frame, by its form.
@@ -176,12 +169,9 @@ fn about_sequence(frame: Frame) -> Option<Identifier>
     ensures { option_map (λ i. i.value) result ≡ about (meaning frame) }
 {
     match frame {
-        Frame::SequenceAcknowledgement {
-            receipt,
-            is_final: _,
-        } => Some(receipt.identifier),
-        Frame::CloseSequenceResponse { receipt } => Some(receipt.identifier),
-        Frame::TerminateSequenceResponse { receipt } => Some(receipt.identifier),
+        Frame::SequenceAcknowledgement { receipt, .. }
+        | Frame::CloseSequenceResponse { receipt }
+        | Frame::TerminateSequenceResponse { receipt } => Some(receipt.identifier),
         Frame::SequenceFault { fault } => about_fault(fault),
         _ => None,
     }
@@ -191,9 +181,9 @@ fn about_fault(fault: Fault) -> Option<Identifier>
     ensures { option_map (λ i. i.value) result ≡ about_fault (fault_meaning fault) }
 {
     match fault {
-        Fault::UnknownSequence(i) => Some(i),
-        Fault::SequenceTerminated(i) => Some(i),
-        Fault::SequenceClosed(i) => Some(i),
+        Fault::UnknownSequence(i) | Fault::SequenceTerminated(i) | Fault::SequenceClosed(i) => Some(
+            i,
+        ),
         Fault::CreateSequenceRefused => None,
     }
 }

@@ -32,10 +32,7 @@ struct Due {
 fn is_rested(gap: u64, clock: u64, sent: Option<u64>) -> bool
     ensures { result ≡ rested gap clock sent }
 {
-    match sent {
-        None => true,
-        Some(at) => at <= clock && gap <= clock - at,
-    }
+    sent.is_none_or(|at| at <= clock && gap <= clock - at)
 }
 
 // The letter in the slot of number n, if it is due.
@@ -108,15 +105,9 @@ impl Planner {
         requires high { number ≤ 9223372036854775807 }
         ensures { meaning result ≡ sequence (name (source_of self.now)) number (content letter) }
     {
-        let Some(identifier) = self.held else {
-            unreachable()
-        };
-        let Some(number) = Number::new(number) else {
-            unreachable()
-        };
         Frame::Sequence {
-            identifier,
-            number,
+            identifier: self.held.unwrap(),
+            number: Number::new(number).unwrap(),
             letter,
         }
     }
