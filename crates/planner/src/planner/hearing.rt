@@ -1,10 +1,10 @@
-ghost use Rattle.std.specs.Prelude.{◌≡◌, ◌≤◌, true, is_some, Option};
+ghost use Rattle.std.specs.Prelude.{◌≡◌, ◌≤◌, ◌==◌, true, cond, is_some, Option};
 ghost use Rattle.frame.specs.Forms.{form_of};
 ghost use Rattle.frame.specs.Listed.{listed};
 ghost use Rattle.frame.specs.Numbers.{Identifier};
 ghost use Rattle.frame.specs.Meanings.{meaning, fault_meaning};
 ghost use Rattle.grammar.specs.Grammar.{reading};
-ghost use Rattle.planner.specs.Hearing.{about, about_fault, after_fault, created, if_creating, heeds, hears, hears_read, is_held, once_closed, once_ended, takes};
+ghost use Rattle.planner.specs.Hearing.{about, about_fault, after_fault, created, if_creating, heeds, hears, hears_read, is_held, takes};
 ghost use Rattle.planner.specs.Sources.{acted, source_of};
 ghost use Rattle.planner.specs.States.{named, rank};
 ghost use Rattle.std.specs.Option.{option_map};
@@ -62,12 +62,12 @@ impl Planner {
             Frame::CloseSequenceResponse { receipt } => self.receive(
                 receipt,
                 form,
-                once_closed(self.state),
+                moved(self.state, PlannerState::Closing, PlannerState::Closed),
             ),
             Frame::TerminateSequenceResponse { receipt } => self.receive(
                 receipt,
                 form,
-                once_ended(self.state),
+                moved(self.state, PlannerState::Terminating, PlannerState::Ended),
             ),
             Frame::SequenceFault { fault } => {
                 self.heed_fault(fault);
@@ -82,7 +82,7 @@ impl Planner {
         ensures { source_of self.new ≡ if_creating
             (created identifier.value (source_of self.old)) (source_of self.old) }
     {
-        if let PlannerState::Creating = self.state {
+        if self.state == PlannerState::Creating {
             self.state = PlannerState::Created;
             self.held = Some(identifier);
             self.credit = 8;
@@ -140,28 +140,15 @@ impl Planner {
     }
 }
 
-// Where the end of the sequence's letters leads.
-fn once_closed(state: PlannerState) -> PlannerState
-    ensures value { result ≡ once_closed state }
+// The state that follows this one, where `from` leads to `to` and every other state stays.
+fn moved(state: PlannerState, from: PlannerState, to: PlannerState) -> PlannerState
+    requires created { 2 ≤ rank from }
+    requires forward { rank from ≤ rank to }
+    ensures value { result ≡ cond (rank state == rank from) to state }
     ensures known { (held : Option Identifier) → named result held ≡ named state held }
     ensures later { rank state ≤ rank result }
 {
-    match state {
-        PlannerState::Closing => PlannerState::Closed,
-        other => other,
-    }
-}
-
-// Where the end of the sequence leads.
-fn once_ended(state: PlannerState) -> PlannerState
-    ensures value { result ≡ once_ended state }
-    ensures known { (held : Option Identifier) → named result held ≡ named state held }
-    ensures later { rank state ≤ rank result }
-{
-    match state {
-        PlannerState::Terminating => PlannerState::Ended,
-        other => other,
-    }
+    if state == from { to } else { state }
 }
 
 // The sequence that the frame is about, where the planner's end has to hold its identifier.
@@ -181,9 +168,9 @@ fn about_fault(fault: Fault) -> Option<Identifier>
     ensures { option_map (λ i. i.value) result ≡ about_fault (fault_meaning fault) }
 {
     match fault {
-        Fault::UnknownSequence(i) | Fault::SequenceTerminated(i) | Fault::SequenceClosed(i) => Some(
-            i,
-        ),
+        Fault::UnknownSequence(identifier)
+        | Fault::SequenceTerminated(identifier)
+        | Fault::SequenceClosed(identifier) => Some(identifier),
         Fault::CreateSequenceRefused => None,
     }
 }

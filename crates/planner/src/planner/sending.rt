@@ -40,14 +40,8 @@ fn due_in(slot: Slot, gap: u64, credit: u64, clock: u64, n: u64) -> Option<Lette
     ensures { option_map content result ≡ due_letter gap credit clock n (slot_of slot) }
 {
     match slot {
-        Slot::Waiting(letter, sent) => {
-            if n <= credit && is_rested(gap, clock, sent) {
-                Some(letter)
-            } else {
-                None
-            }
-        }
-        Slot::Free | Slot::Receipted => None,
+        Slot::Waiting(letter, sent) if n <= credit && is_rested(gap, clock, sent) => Some(letter),
+        _ => None,
     }
 }
 
@@ -58,10 +52,9 @@ fn first_due(slots: &[Slot; WINDOW], gap: u64, credit: u64, clock: u64, b: u64) 
     ensures stands { IfSome result (λ d. (d.place < 8)
         × (is_free (slice_index_or (window_of slots.now) d.place free) ≡ false)) }
 {
-    for k in 0..WINDOW {
-        match due_in(slots[k], gap, credit, clock, b + k as u64) {
-            Some(letter) => return Some(Due { place: k, letter }),
-            None => {}
+    for (place, slot) in slots.iter().enumerate() {
+        if let Some(letter) = due_in(*slot, gap, credit, clock, b + place as u64) {
+            return Some(Due { place, letter });
         }
     }
     None

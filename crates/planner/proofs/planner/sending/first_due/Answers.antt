@@ -1,39 +1,27 @@
-use Rattle.std.proofs.Common.{sym, ap, ◌∙◌, arith}
+use Rattle.std.proofs.Common.{sym, ◌∙◌, arith}
 use Rattle.std.proofs.lemmas.List.{at_drop_all}
 use Rattle.planner.specs.Sending.{first_due}
-use Rattle.planner.specs.Windows.{window_of, is_free}
-use Rattle.planner.proofs.Sends.{first_due_more, seen_at, due_stands}
+use Rattle.planner.specs.Windows.{window_of}
+use Rattle.planner.proofs.Sends.{first_due_more}
 use Rattle.planner.proofs.planner.sending.first_due.Goals as goal
 
-pub returns-in-Some : goal.returns-in-Some
-returns-in-Some c =
+pub returns-in-Some-clause-value : goal.returns-in-Some-clause-value
+returns-in-Some-clause-value c =
     let a = c.args in
-    let k = c.loop-k.k in
-    let d = c.index-slots-k.result in
-    let more = first_due_more a.slots.now k d (omega arith) a.gap a.credit a.clock a.b _ c.in-Some.ensures in
-    record {
-      value = sym more ∙ c.loop-k.invariant;
-      stands = (
-        omega arith,
-        ap is_free (seen_at a.slots.now k d (omega arith)) ∙
-            due_stands a.gap a.credit a.clock _ _ _ c.in-Some.ensures,
-      );
-    }
+    sym (first_due_more a.slots.now c.loop-place.place c.index-slots-place.result (omega arith)
+    a.gap a.credit a.clock a.b _ c.in-Some.ensures) ∙
+    c.loop-place.invariant
 
-pub loop-k-preserved : goal.loop-k-preserved
-loop-k-preserved c =
+pub loop-place-preserved : goal.loop-place-preserved
+loop-place-preserved c =
     let a = c.args in
-    sym (first_due_more a.slots.now c.loop-k.k c.index-slots-k.result (omega arith)
-    a.gap a.credit a.clock a.b _ c.in-None.ensures) ∙
-    c.loop-k.invariant
+    sym (first_due_more a.slots.now c.loop-place.place c.index-slots-place.result (omega arith)
+    a.gap a.credit a.clock a.b _ c.in_default.ensures) ∙
+    c.loop-place.invariant
 
-pub returns : goal.returns
-returns c =
+pub returns-clause-value : goal.returns-clause-value
+returns-clause-value c =
     let a = c.args in
-    let k = c.loop-k.k in
-    record {
-      value =
-          sym (at_drop_all (λ xs. first_due a.gap a.credit a.clock a.b k (window_of xs)) a.slots.now k (omega arith)) ∙
-          c.loop-k.invariant;
-      stands = tt;
-    }
+    let k = c.loop-place.place in
+    sym (at_drop_all (λ xs. first_due a.gap a.credit a.clock a.b k (window_of xs)) a.slots.now k (omega arith)) ∙
+    c.loop-place.invariant

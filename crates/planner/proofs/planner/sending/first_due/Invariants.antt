@@ -3,7 +3,7 @@ use Rattle.planner.specs.Sending.{first_due}
 use Rattle.planner.specs.Windows.{window_of}
 use Rattle.planner.proofs.planner.sending.first_due.Given as goal
 
-abbrev pub invariant-loop-k : goal.invariant-loop-k
-invariant-loop-k l =
-    first_due l.gap l.credit l.clock l.b l.k (window_of (drop l.k l.slots)) ≡
+abbrev pub invariant-loop-place : goal.invariant-loop-place
+invariant-loop-place l =
+    first_due l.gap l.credit l.clock l.b l.place (window_of (drop l.place l.slots)) ≡
     first_due l.gap l.credit l.clock l.b 0 (window_of l.slots)
