@@ -5,5 +5,4 @@ pub mod Turns
 pub mod Ranges
 pub mod Windows
 pub mod Laws
-pub mod Sounds
 pub mod Dues

@@ -1,4 +1,4 @@
-ghost use Rattle.std.specs.Prelude.{◌≡◌, ◌≤◌, ◌==◌, true, cond, is_some, Option};
+ghost use Rattle.std.specs.Prelude.{◌≡◌, ◌≤◌, ◌==◌, true, cond, is_some, Ok, Option};
 ghost use Rattle.frame.specs.Forms.{form_of};
 ghost use Rattle.frame.specs.Listed.{listed};
 ghost use Rattle.frame.specs.Numbers.{Identifier};
@@ -8,6 +8,8 @@ ghost use Rattle.planner.specs.Hearing.{about, about_fault, after_fault, created
 ghost use Rattle.planner.specs.Sources.{acted, source_of};
 ghost use Rattle.planner.specs.States.{named, rank};
 ghost use Rattle.std.specs.Option.{option_map};
+ghost use Rattle.std.specs.Result.{result_and};
+ghost use Rattle.frame.specs.declared.form.Form.{Form};
 
 use super::Planner;
 use super::receipts::{front_of, mark_all, slide, upper_above};
@@ -50,31 +52,21 @@ impl Planner {
         requires { is_some (about (meaning frame)) ≡ true → 2 ≤ rank self.old.state }
         ensures { acted self.new result ≡ heeds (meaning frame) (source_of self.old) }
     {
-        let form = frame.form();
         match frame {
-            Frame::CreateSequenceResponse { identifier } => {
-                self.create(identifier);
-                Ok(form)
+            Frame::CreateSequenceResponse { identifier } => self.create(identifier),
+            Frame::SequenceAcknowledgement { receipt, .. } => self.receive(receipt, self.state)?,
+            Frame::CloseSequenceResponse { receipt } => {
+                let next = moved(self.state, PlannerState::Closing, PlannerState::Closed);
+                self.receive(receipt, next)?;
             }
-            Frame::SequenceAcknowledgement { receipt, .. } => self.receive(
-                receipt, form, self.state,
-            ),
-            Frame::CloseSequenceResponse { receipt } => self.receive(
-                receipt,
-                form,
-                moved(self.state, PlannerState::Closing, PlannerState::Closed),
-            ),
-            Frame::TerminateSequenceResponse { receipt } => self.receive(
-                receipt,
-                form,
-                moved(self.state, PlannerState::Terminating, PlannerState::Ended),
-            ),
-            Frame::SequenceFault { fault } => {
-                self.heed_fault(fault);
-                Ok(form)
+            Frame::TerminateSequenceResponse { receipt } => {
+                let next = moved(self.state, PlannerState::Terminating, PlannerState::Ended);
+                self.receive(receipt, next)?;
             }
-            _ => Ok(form),
+            Frame::SequenceFault { fault } => self.heed_fault(fault),
+            _ => {}
         }
+        Ok(frame.form())
     }
 
     // The sequence is created, if it was asked for.
@@ -115,15 +107,10 @@ impl Planner {
     }
 
     // Marks the receipts, moves the window past those in front, and goes on to the next state.
-    fn receive(
-        &mut self,
-        receipt: Receipt,
-        form: Form,
-        next: PlannerState,
-    ) -> Result<Form, PlannerRefusal>
+    fn receive(&mut self, receipt: Receipt, next: PlannerState) -> Result<(), PlannerRefusal>
         requires known { named next self.old.held ≡ true }
         requires created { 2 ≤ rank next }
-        ensures { acted self.new result ≡
+        ensures { (form : Form) → acted self.new (result_and result (Ok form)) ≡
             takes form (listed receipt.ranges) receipt.credit.value next (source_of self.old) }
     {
         let ranges = receipt.ranges.as_slice();
@@ -136,7 +123,7 @@ impl Planner {
         self.lowest += by as u64;
         self.credit = self.credit.max(receipt.credit.get());
         self.state = next;
-        Ok(form)
+        Ok(())
     }
 }
 
