@@ -1,6 +1,7 @@
 pub mod Slots
 pub mod Writes
 pub mod Sends
+pub mod Finds
 pub mod Turns
 pub mod Ranges
 pub mod Windows

@@ -52,12 +52,10 @@ fn first_due(slots: &[Slot; WINDOW], gap: u64, credit: u64, clock: u64, b: u64) 
     ensures stands { IfSome result (λ d. (d.place < 8)
         × (is_free (slice_index_or (window_of slots.now) d.place free) ≡ false)) }
 {
-    for (place, slot) in slots.iter().enumerate() {
-        if let Some(letter) = due_in(*slot, gap, credit, clock, b + place as u64) {
-            return Some(Due { place, letter });
-        }
-    }
-    None
+    slots.iter().enumerate().find_map(|(place, slot)| {
+        let letter = due_in(*slot, gap, credit, clock, b + place as u64)?;
+        Some(Due { place, letter })
+    })
 }
 
 // The slot of a letter that is sent at this clock: it stays until its receipt comes.

@@ -1,17 +1,9 @@
-use Rattle.std.proofs.Common.{sym, ◌∙◌, arith}
-use Rattle.planner.proofs.Sends.{first_due_more}
+use Rattle.std.proofs.Common.{rules, tests}
+use Rattle.planner.proofs.Finds.{Finds, first_is}
 use Rattle.planner.proofs.planner.sending.first_due.Goals as goal
 
-pub returns-in-Some-clause-value : goal.returns-in-Some-clause-value
-returns-in-Some-clause-value c =
+pub returns-clause-value : goal.returns-clause-value
+returns-clause-value c =
     let a = c.args in
-    sym (first_due_more a.slots.now c.loop-place.place c.index-slots-place.result (omega arith)
-    a.gap a.credit a.clock a.b _ c.in-Some.ensures) ∙
-    c.loop-place.invariant
-
-pub loop-place-preserved : goal.loop-place-preserved
-loop-place-preserved c =
-    let a = c.args in
-    sym (first_due_more a.slots.now c.loop-place.place c.index-slots-place.result (omega arith)
-    a.gap a.credit a.clock a.b _ c.in_default.ensures) ∙
-    c.loop-place.invariant
+    let finds : Finds a.gap a.credit a.clock a.b a.slots.now c.find_map.result = search (rules, tests) in
+    first_is a.gap a.credit a.clock a.b a.slots.now c.find_map.result finds
