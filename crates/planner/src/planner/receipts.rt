@@ -1,4 +1,4 @@
-ghost use Rattle.std.specs.Prelude.{◌≡◌, ◌≤◌};
+ghost use Rattle.std.specs.Prelude.{◌≡◌, ◌≤◌, length};
 ghost use Rattle.planner.specs.Receipts.{covers, first_above, with_receipts, in_front, slid};
 ghost use Rattle.planner.specs.Windows.{window_of};
 
@@ -46,7 +46,8 @@ pub(super) fn front_of(slots: &[Slot; WINDOW]) -> usize
 // Moves the window on by so many numbers.
 pub(super) fn slide(slots: &mut [Slot; WINDOW], by: usize)
     requires { by ≤ 8 }
-    ensures { window_of slots.new ≡ slid by (window_of slots.old) }
+    ensures value { window_of slots.new ≡ slid by (window_of slots.old) }
+    ensures whole { length slots.new ≡ 8 }
 {
     slots[..by].fill(Slot::Free);
     slots.rotate_left(by);

@@ -4,8 +4,8 @@ use Rattle.planner.specs.Windows.{window_of}
 use Rattle.planner.proofs.Turns.{turned}
 use Rattle.planner.proofs.planner.receipts.slide.Goals as goal
 
-pub returns : goal.returns
-returns c =
+pub returns-clause-value : goal.returns-clause-value
+returns-clause-value c =
     let slots = c.args.slots.now in
     let by = c.args.by in
     let fits : by ≤ length slots = omega arith in
