@@ -74,6 +74,7 @@ impl Planner {
         self.is_marked(n)
     }
 
+    // The value of `has_receipt`, apart from the laws that it also promises.
     fn is_marked(&self, n: u64) -> bool
         ensures { result ≡ receipted (source_of self.now) n }
     {

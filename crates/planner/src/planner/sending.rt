@@ -60,9 +60,9 @@ impl Planner {
         ensures { option_map content result ≡ due_letter self.now.gap self.now.credit clock n (slot_of slot) }
     {
         match slot {
-            Slot::Waiting(letter, sent) if n <= self.credit && self.is_rested(clock, sent) => Some(
-                letter,
-            ),
+            Slot::Waiting(letter, sent) => {
+                (n <= self.credit && self.is_rested(clock, sent)).then_some(letter)
+            }
             _ => None,
         }
     }
