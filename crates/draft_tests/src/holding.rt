@@ -14,14 +14,10 @@ pub fn post_or_tear(planner: &mut Planner, draft: Draft) -> Result<u64, PlannerR
     ensures { acted planner.new result ≡
         posts (encoded (Put draft.path)) (source_of planner.old) }
 {
-    match planner.post(draft) {
-        Ok(number) => Ok(number),
-        Err(refused) => {
-            let (why, back) = refused;
-            back.tear();
-            Err(why)
-        }
-    }
+    planner.post(draft).map_err(|(why, back)| {
+        back.tear();
+        why
+    })
 }
 
 // Drafts of a train's paths through two sections, the second entered as the first is left: both or none.

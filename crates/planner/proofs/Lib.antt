@@ -1,8 +1,9 @@
 pub mod Slots
 pub mod Writes
 pub mod Sends
+pub mod Finds
 pub mod Turns
+pub mod Ranges
 pub mod Windows
 pub mod Laws
-pub mod Sounds
 pub mod Dues

@@ -1,33 +1,10 @@
--- The search for the lowest due letter, slot by slot.
-use Rattle.std.proofs.Common.{◌≡◌, ℕ, ◌+◌, ◌<◌, false, List, length, get_or, drop, set, Some, Option, sym, refl, ap, ◌∙◌}
-use Rattle.std.proofs.lemmas.List.{at_drop_more, get_or-map}
+-- What sending a due letter leaves and puts.
+use Rattle.std.proofs.Common.{◌≡◌, ℕ, ◌+◌, List, set, Some, ap, ◌∙◌}
 use Rattle.frame.specs.Meanings.{Meaning, sequence}
 use Rattle.planner.specs.Sources.{Source, done, name, with_window}
-use Rattle.planner.specs.Sending.{Due, due_letter, or_later, first_due, lowest_due, sends_due}
-use Rattle.planner.specs.Windows.{Slot, free, waiting, receipted, slot_of, window_of, is_free}
-use Rattle.planner.specs.declared.slot.Slot as code
+use Rattle.planner.specs.Sending.{Due, lowest_due, sends_due}
+use Rattle.planner.specs.Windows.{Slot, waiting}
 
-module _ (slots : List code.Slot) (k : ℕ) (d : code.Slot) (lt : k < length slots) where
-  -- what is found from place k on, where the slot there gives o, or else behind it
-  pub first_due_more :
-      (gap credit clock b : ℕ) (o : Option (List ℕ)) →
-      o ≡ due_letter gap credit clock (b + k) (slot_of (get_or slots k d)) →
-      first_due gap credit clock b k (window_of (drop k slots)) ≡
-      or_later o k (first_due gap credit clock b (k + 1) (window_of (drop (k + 1) slots)))
-  first_due_more gap credit clock b o e =
-      at_drop_more (λ xs. first_due gap credit clock b k (window_of xs)) slots k d lt ∙
-      ap (λ x. or_later x k (first_due gap credit clock b (k + 1) (window_of (drop (k + 1) slots)))) (sym e)
-
-  pub seen_at : get_or (window_of slots) k free ≡ slot_of (get_or slots k d)
-  seen_at = get_or-map slot_of slots k d free lt
-
--- a slot that is due is not free
-pub due_stands : (gap credit clock n : ℕ) (s : Slot) (l : List ℕ) → Some l ≡ due_letter gap credit clock n s → is_free s ≡ false
-due_stands gap credit clock n free l e = cc
-due_stands gap credit clock n (waiting m at) l e = refl
-due_stands gap credit clock n receipted l e = refl
-
--- what sending this due letter leaves and puts
 pub sent_is :
     (s : Source) (clock : ℕ) (d : Due) (window : List Slot) (m : Meaning) →
     Some d ≡ lowest_due clock s →

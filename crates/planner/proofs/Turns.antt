@@ -1,36 +1,20 @@
--- One turn of the loops over ranges and slots.
-use Rattle.std.proofs.Common.{◌≡◌, ℕ, suc, ◌+◌, ◌-◌, ◌<◌, ◌≤◌, cond, ◌&&◌, ◌||◌, ltb, leb, List, [], ◌∷◌, ◌++◌, length, get_or, take, drop, set, Some, sym, ap, ◌∙◌, append_assoc, append-nil, add_assoc, arith}
-use Rattle.std.proofs.lemmas.List.{at_drop_more, take_all, drop_all, take_more_set, drop-set-lt, set_at, map-append}
+-- The steps over the slots of the window.
+use Rattle.std.proofs.Common.{◌≡◌, ℕ, zero, suc, ◌+◌, ◌<◌, ◌≤◌, Bool, cond, List, [], ◌∷◌, ◌++◌, length, length-append, get_or, take, drop, set, replicate, sym, refl, ap, ◌∙◌, append_assoc, append-nil, add_assoc, arith}
+use Rattle.std.specs.List.{prefix_len}
+use Rattle.std.proofs.lemmas.List.{at_drop_more, take_all, drop_all, take_at, drop_at, take_more_set, drop-append-le, drop-set-lt, length-replicate, map-append}
 use Rattle.frame.specs.declared.range.Range.{Range}
 use Rattle.frame.specs.Covers.{covers}
-use Rattle.planner.specs.Receipts.{first_above, marked, with_receipts, in_front, shifted, slid}
-use Rattle.planner.specs.Windows.{Slot, has_receipt, slot_of, window_of}
+use Rattle.planner.specs.Receipts.{marked, with_receipts, in_front, slid}
+use Rattle.planner.specs.Windows.{has_receipt, slot_of, window_of}
 use Rattle.planner.specs.declared.slot.Slot as code
 use Rattle.planner.specs.declared.slot.Slot.TheVariants as slot
 
-abbrev pub no_range : Range
-no_range = record { lower = 0; upper = 0 }
+abbrev pub receipted : code.Slot → Bool
+receipted s = has_receipt (slot_of s)
 
-pub covers_more :
-    (rs : List Range) (i n : ℕ) →
-    i < length rs →
-    covers (drop i rs) n ≡
-    ((leb (get_or rs i no_range).lower n && leb n (get_or rs i no_range).upper) || covers (drop (i + 1) rs) n)
-covers_more rs i n lt = at_drop_more (λ xs. covers xs n) rs i no_range lt
-
-pub above_more :
-    (rs : List Range) (i n : ℕ) →
-    i < length rs →
-    first_above (drop i rs) n ≡
-    cond (ltb n (get_or rs i no_range).upper) (Some (get_or rs i no_range).upper) (first_above (drop (i + 1) rs) n)
-above_more rs i n lt = at_drop_more (λ xs. first_above xs n) rs i no_range lt
-
-pub front_more :
-    (slots : List code.Slot) (k : ℕ) (d : code.Slot) →
-    k < length slots →
-    in_front (window_of (drop k slots)) ≡
-    cond (has_receipt (slot_of (get_or slots k d))) (in_front (window_of (drop (k + 1) slots)) + 1) 0
-front_more slots k d lt = at_drop_more (λ xs. in_front (window_of xs)) slots k d lt
+pub front_is : (slots : List code.Slot) → prefix_len receipted slots ≡ in_front (window_of slots)
+front_is [] = refl
+front_is (s ∷ slots) = ap (λ n. cond (has_receipt (slot_of s)) n 0) (omega (arith, front_is slots))
 
 pub marks_more :
     (rs : List Range) (n k : ℕ) (slots : List code.Slot) (d v : code.Slot) →
@@ -54,10 +38,25 @@ pub marks_all :
     window_of (take k slots) ++ with_receipts rs n (window_of (drop k slots)) ≡ window_of slots
 marks_all rs n k slots le = rw (take_all k slots le, drop_all k slots le) (append-nil (window_of slots))
 
-pub shift_is : (slots : List code.Slot) → length slots ≡ 8 → window_of (set (drop 1 slots ++ take 1 slots) 7 slot.Free) ≡ shifted (window_of slots)
-shift_is [] e = absurd (let z : ⊥ = omega arith in z)
-shift_is (x ∷ slots) e =
-    ap window_of (set_at slots x [] slot.Free 7 (omega arith)) ∙ map-append slot_of slots (slot.Free ∷ [])
+-- the slots in front made free and put behind the others
+pub slid_is : (k : ℕ) (slots : List code.Slot) → k ≤ length slots → window_of (drop k slots ++ replicate k slot.Free) ≡ slid k (window_of slots)
+slid_is zero slots le = ap window_of (append-nil slots)
+slid_is (suc k) [] le = absurd (let z : ⊥ = omega arith in z)
+slid_is (suc k) (x ∷ slots) le =
+    let few : k ≤ length slots = omega arith in
+    let behind = sym (append_assoc (drop k slots) (slot.Free ∷ []) (replicate k slot.Free)) ∙
+    ap (λ l. l ++ replicate k slot.Free) (sym (drop-append-le k slots (slot.Free ∷ []) few)) in
+    ap window_of behind ∙
+    slid_is k (slots ++ slot.Free ∷ []) (omega (arith, length-append slots (slot.Free ∷ []))) ∙
+    ap (slid k) (map-append slot_of slots (slot.Free ∷ []))
 
-pub slid_more : (by k : ℕ) (w : List Slot) → k < by → slid (by - (k + 1)) (shifted w) ≡ slid (by - k) w
-slid_more by k w lt = let e : by - k ≡ suc (by - (k + 1)) = omega arith in rw e
+pub turned :
+    (by : ℕ) (slots front : List code.Slot) →
+    by ≤ length slots →
+    front ≡ replicate by slot.Free →
+    window_of (drop by (front ++ drop by slots) ++ take by (front ++ drop by slots)) ≡ slid by (window_of slots)
+turned by slots front le e =
+    let long : length front ≡ by = ap length e ∙ length-replicate by slot.Free in
+    ap window_of (ap (λ l. l ++ take by (front ++ drop by slots)) (drop_at front (drop by slots) by long) ∙
+    ap (λ l. drop by slots ++ l) (take_at front (drop by slots) by long ∙ e)) ∙
+    slid_is by slots le

@@ -1,31 +1,9 @@
 -- What the window keeps when receipts come.
-use Rattle.std.proofs.Common.{◌≡◌, ℕ, zero, suc, ◌+◌, ◌-◌, ◌≤◌, Bool, true, false, cond, List, [], ◌∷◌, ◌++◌, length, get_or, sym, refl, ap, ◌∙◌, append_assoc, append-nil, add-one, arith, length-append, length-drop}
-use Rattle.std.proofs.lemmas.List.{length-map}
+use Rattle.std.proofs.Common.{◌≡◌, ℕ, zero, suc, ◌+◌, ◌-◌, ◌≤◌, Bool, true, false, cond, List, [], ◌∷◌, ◌++◌, get_or, sym, refl, ap, ◌∙◌, append_assoc, append-nil, add-one, arith}
 use Rattle.frame.specs.declared.range.Range.{Range}
 use Rattle.frame.specs.Covers.{covers}
 use Rattle.planner.specs.Receipts.{marked, with_receipts, in_front, shifted, slid}
-use Rattle.planner.specs.Windows.{Slot, free, waiting, receipted, is_free, has_receipt, slot_of, window_of, FreeFrom, Lowest}
-use Rattle.planner.specs.declared.slot.Slot as code
-
--- there are eight slots
-
-pub length_marks : (rs : List Range) (n : ℕ) (w : List Slot) → length (with_receipts rs n w) ≡ length w
-length_marks rs n [] = refl
-length_marks rs n (s ∷ w) = ap suc (length_marks rs (n + 1) w)
-
-pub length_slid : (k : ℕ) (w : List Slot) → length w ≡ 8 → length (slid k w) ≡ 8
-length_slid zero w e = e
-length_slid (suc k) w e = length_slid k (shifted w) (simp (length-append, length-drop) (omega arith))
-
-pub length_received :
-    (rs : List Range) (n by : ℕ) (before marked after : List code.Slot) →
-    window_of marked ≡ with_receipts rs n (window_of before) →
-    window_of after ≡ slid by (window_of marked) →
-    length before ≡ 8 →
-    length after ≡ 8
-length_received rs n by before marked after marks slides e =
-    sym (length-map after slot_of) ∙ ap length slides ∙
-    length_slid by (window_of marked) (ap length marks ∙ length_marks rs n (window_of before) ∙ length-map before slot_of ∙ e)
+use Rattle.planner.specs.Windows.{Slot, free, waiting, receipted, is_free, has_receipt, FreeFrom, Lowest}
 
 -- a receipt for a number that is not written changes nothing
 

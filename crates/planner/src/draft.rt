@@ -10,6 +10,7 @@ mod making;
 // it may be let go only once it is spent, and only those two spend it.
 pub struct Draft {
     path: Path,
+    // a flag and not a type: what `drop` requires is said of the value that is let go (docs/DECISIONS.md)
     spent: bool,
     ghost good: { in_range (Put path) ≡ true },
 }

@@ -6,7 +6,7 @@ use crate::state::PlannerState;
 use pieces::ReadFault;
 
 // Why the planner's end says no.
-#[derive(Clone, Copy)]
+#[derive(Clone, Copy, PartialEq, Eq, Debug)]
 pub enum PlannerRefusal {
     // write: no bytes, or more than 48
     LetterSize,
@@ -34,7 +34,7 @@ impl From<ReadFault> for PlannerRefusal {
 }
 
 impl PlannerRefusal {
-    // The refusal's number in the table of refusals.
+    // The refusal's number in the table of refusals. A match, since variants with values cannot be cast.
     pub fn number(&self) -> u8
         ensures { result ≡ refusal_number self.now }
     {

@@ -19,11 +19,11 @@ pub struct Settings {
     ghost day: { gap ≤ 86400 },
 }
 
-// Why no settings are made.
-#[derive(Clone, Copy)]
+// Why no settings are made: each with its number in the table of refusals.
+#[derive(Clone, Copy, PartialEq, Eq, Debug)]
 pub enum SettingsRefusal {
     // the identifier is not 1 to 4,294,967,295
-    Identifier,
+    Identifier = 11,
     // the gap is not 1 to 86,400, or the limit not 1 to 9,223,372,036,854,775,807
-    GapOrLimit,
+    GapOrLimit = 12,
 }

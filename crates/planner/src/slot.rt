@@ -1,3 +1,9 @@
+ghost use Rattle.std.specs.Prelude.{◌≡◌, ◌&&◌, nat_le};
+ghost use Rattle.std.specs.Option.{option_map};
+ghost use Rattle.letter.specs.Letters.{content};
+ghost use Rattle.planner.specs.Receipts.{marked};
+ghost use Rattle.planner.specs.Windows.{has_receipt, slot_of};
+
 use letter::Letter;
 
 // How many numbers the window has.
@@ -12,4 +18,22 @@ pub(crate) enum Slot {
     Waiting(Letter, Option<u64>),
     // a receipt has come
     Receipted,
+}
+
+impl Slot {
+    pub(crate) fn has_receipt(&self) -> bool
+        ensures { result ≡ has_receipt (slot_of self.now) }
+    {
+        matches!(self, Slot::Receipted)
+    }
+
+    // The slot, where a receipt names its number or not.
+    pub(crate) fn marked(self, named: bool) -> Slot
+        ensures { slot_of result ≡ marked named (slot_of self) }
+    {
+        match self {
+            Slot::Waiting(..) if named => Slot::Receipted,
+            _ => self,
+        }
+    }
 }

@@ -12,10 +12,8 @@ impl Draft {
     pub fn new(train: u32, section: u32, enter: u32, leave: u32) -> Result<Draft, LetterRefusal>
         ensures { shown result ≡ drafted train section enter leave }
     {
-        match Path::new(train, section, enter, leave) {
-            Some(path) => Ok(Draft { path, spent: false }),
-            None => Err(LetterRefusal::Spoilt),
-        }
+        let path = Path::new(train, section, enter, leave).ok_or(LetterRefusal::Spoilt)?;
+        Ok(Draft { path, spent: false })
     }
 
     // The path that it would put.
@@ -35,9 +33,6 @@ impl Draft {
     pub(crate) fn letter(&self) -> Letter
         ensures { content result ≡ encoded (Put self.now.path) }
     {
-        match Letter::new(&encode_put(self.path)) {
-            Some(letter) => letter,
-            None => unreachable(),
-        }
+        Letter::new(&encode_put(self.path)).unwrap()
     }
 }

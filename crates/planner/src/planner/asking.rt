@@ -5,7 +5,6 @@ ghost use Rattle.planner.specs.Starting.{fresh};
 ghost use Rattle.planner.specs.Windows.{free, has_receipt, slot_of, window_of};
 
 use super::Planner;
-use super::receipts::is_receipted;
 use crate::settings::Settings;
 use crate::slot::{Slot, WINDOW};
 use crate::state::PlannerState;
@@ -75,16 +74,14 @@ impl Planner {
         self.is_marked(n)
     }
 
+    // The value of `has_receipt`, apart from the laws that it also promises.
     fn is_marked(&self, n: u64) -> bool
         ensures { result ≡ receipted (source_of self.now) n }
     {
-        if n < self.lowest {
-            return true;
-        }
-        let k = n - self.lowest;
-        if k >= WINDOW as u64 {
-            return false;
-        }
-        is_receipted(self.slots[k as usize])
+        n < self.lowest
+            || matches!(
+                self.slots.get((n - self.lowest) as usize),
+                Some(Slot::Receipted)
+            )
     }
 }

@@ -1,13 +1,15 @@
-ghost use Rattle.std.specs.Prelude.{◌≡◌, ◌≤◌, true, is_some, Option};
+ghost use Rattle.std.specs.Prelude.{◌≡◌, ◌≤◌, ◌==◌, true, cond, is_some, Ok, Option};
 ghost use Rattle.frame.specs.Forms.{form_of};
 ghost use Rattle.frame.specs.Listed.{listed};
 ghost use Rattle.frame.specs.Numbers.{Identifier};
 ghost use Rattle.frame.specs.Meanings.{meaning, fault_meaning};
 ghost use Rattle.grammar.specs.Grammar.{reading};
-ghost use Rattle.planner.specs.Hearing.{about, about_fault, after_fault, created, if_creating, heeds, hears, hears_read, is_held, once_closed, once_ended, takes};
+ghost use Rattle.planner.specs.Hearing.{about, about_fault, after_fault, created, if_creating, heeds, hears, hears_read, is_held, takes};
 ghost use Rattle.planner.specs.Sources.{acted, source_of};
 ghost use Rattle.planner.specs.States.{named, rank};
 ghost use Rattle.std.specs.Option.{option_map};
+ghost use Rattle.std.specs.Result.{result_and};
+ghost use Rattle.frame.specs.declared.form.Form.{Form};
 
 use super::Planner;
 use super::receipts::{front_of, mark_all, slide, upper_above};
@@ -31,14 +33,10 @@ impl Planner {
         ensures { acted self.new result ≡ hears (meaning frame) (source_of self.old) }
     {
         match about_sequence(frame) {
-            Some(identifier) => {
-                if self.holds(identifier) {
-                    self.heed(frame)
-                } else {
-                    Err(PlannerRefusal::Identifier(identifier.get() as u32))
-                }
+            Some(identifier) if !self.holds(identifier) => {
+                Err(PlannerRefusal::Identifier(identifier.get() as u32))
             }
-            None => self.heed(frame),
+            _ => self.heed(frame),
         }
     }
 
@@ -46,10 +44,7 @@ impl Planner {
         ensures value { result ≡ is_held (option_map (λ i. i.value) self.now.held) identifier.value }
         ensures created { result ≡ true → 2 ≤ rank self.now.state }
     {
-        match self.held {
-            Some(held) => identifier.get() == held.get(),
-            None => false,
-        }
+        self.held == Some(identifier)
     }
 
     // What the end makes of the frame, by its form.
@@ -57,31 +52,21 @@ impl Planner {
         requires { is_some (about (meaning frame)) ≡ true → 2 ≤ rank self.old.state }
         ensures { acted self.new result ≡ heeds (meaning frame) (source_of self.old) }
     {
-        let form = frame.form();
         match frame {
-            Frame::CreateSequenceResponse { identifier } => {
-                self.create(identifier);
-                Ok(form)
+            Frame::CreateSequenceResponse { identifier } => self.create(identifier),
+            Frame::SequenceAcknowledgement { receipt, .. } => self.receive(receipt, self.state)?,
+            Frame::CloseSequenceResponse { receipt } => {
+                let next = moved(self.state, PlannerState::Closing, PlannerState::Closed);
+                self.receive(receipt, next)?;
             }
-            Frame::SequenceAcknowledgement { receipt, .. } => self.receive(
-                receipt, form, self.state,
-            ),
-            Frame::CloseSequenceResponse { receipt } => self.receive(
-                receipt,
-                form,
-                once_closed(self.state),
-            ),
-            Frame::TerminateSequenceResponse { receipt } => self.receive(
-                receipt,
-                form,
-                once_ended(self.state),
-            ),
-            Frame::SequenceFault { fault } => {
-                self.heed_fault(fault);
-                Ok(form)
+            Frame::TerminateSequenceResponse { receipt } => {
+                let next = moved(self.state, PlannerState::Terminating, PlannerState::Ended);
+                self.receive(receipt, next)?;
             }
-            _ => Ok(form),
+            Frame::SequenceFault { fault } => self.heed_fault(fault),
+            _ => {}
         }
+        Ok(frame.form())
     }
 
     // The sequence is created, if it was asked for.
@@ -89,7 +74,7 @@ impl Planner {
         ensures { source_of self.new ≡ if_creating
             (created identifier.value (source_of self.old)) (source_of self.old) }
     {
-        if let PlannerState::Creating = self.state {
+        if self.state == PlannerState::Creating {
             self.state = PlannerState::Created;
             self.held = Some(identifier);
             self.credit = 8;
@@ -122,15 +107,10 @@ impl Planner {
     }
 
     // Marks the receipts, moves the window past those in front, and goes on to the next state.
-    fn receive(
-        &mut self,
-        receipt: Receipt,
-        form: Form,
-        next: PlannerState,
-    ) -> Result<Form, PlannerRefusal>
+    fn receive(&mut self, receipt: Receipt, next: PlannerState) -> Result<(), PlannerRefusal>
         requires known { named next self.old.held ≡ true }
         requires created { 2 ≤ rank next }
-        ensures { acted self.new result ≡
+        ensures { (form : Form) → acted self.new (result_and result (Ok form)) ≡
             takes form (listed receipt.ranges) receipt.credit.value next (source_of self.old) }
     {
         let ranges = receipt.ranges.as_slice();
@@ -143,32 +123,19 @@ impl Planner {
         self.lowest += by as u64;
         self.credit = self.credit.max(receipt.credit.get());
         self.state = next;
-        Ok(form)
+        Ok(())
     }
 }
 
-// Where the end of the sequence's letters leads.
-fn once_closed(state: PlannerState) -> PlannerState
-    ensures value { result ≡ once_closed state }
+// The state that follows this one, where `from` leads to `to` and every other state stays.
+fn moved(state: PlannerState, from: PlannerState, to: PlannerState) -> PlannerState
+    requires created { 2 ≤ rank from }
+    requires forward { rank from ≤ rank to }
+    ensures value { result ≡ cond (rank state == rank from) to state }
     ensures known { (held : Option Identifier) → named result held ≡ named state held }
     ensures later { rank state ≤ rank result }
 {
-    match state {
-        PlannerState::Closing => PlannerState::Closed,
-        other => other,
-    }
-}
-
-// Where the end of the sequence leads.
-fn once_ended(state: PlannerState) -> PlannerState
-    ensures value { result ≡ once_ended state }
-    ensures known { (held : Option Identifier) → named result held ≡ named state held }
-    ensures later { rank state ≤ rank result }
-{
-    match state {
-        PlannerState::Terminating => PlannerState::Ended,
-        other => other,
-    }
+    if state == from { to } else { state }
 }
 
 // The sequence that the frame is about, where the planner's end has to hold its identifier.
@@ -176,12 +143,9 @@ fn about_sequence(frame: Frame) -> Option<Identifier>
     ensures { option_map (λ i. i.value) result ≡ about (meaning frame) }
 {
     match frame {
-        Frame::SequenceAcknowledgement {
-            receipt,
-            is_final: _,
-        } => Some(receipt.identifier),
-        Frame::CloseSequenceResponse { receipt } => Some(receipt.identifier),
-        Frame::TerminateSequenceResponse { receipt } => Some(receipt.identifier),
+        Frame::SequenceAcknowledgement { receipt, .. }
+        | Frame::CloseSequenceResponse { receipt }
+        | Frame::TerminateSequenceResponse { receipt } => Some(receipt.identifier),
         Frame::SequenceFault { fault } => about_fault(fault),
         _ => None,
     }
@@ -191,9 +155,9 @@ fn about_fault(fault: Fault) -> Option<Identifier>
     ensures { option_map (λ i. i.value) result ≡ about_fault (fault_meaning fault) }
 {
     match fault {
-        Fault::UnknownSequence(i) => Some(i),
-        Fault::SequenceTerminated(i) => Some(i),
-        Fault::SequenceClosed(i) => Some(i),
+        Fault::UnknownSequence(identifier)
+        | Fault::SequenceTerminated(identifier)
+        | Fault::SequenceClosed(identifier) => Some(identifier),
         Fault::CreateSequenceRefused => None,
     }
 }

@@ -3,13 +3,13 @@ ghost use Rattle.frame.specs.Meanings.{meaning, sequence};
 ghost use Rattle.letter.specs.Letters.{content};
 ghost use Rattle.planner.specs.Laws.{SendsLowestDue};
 ghost use Rattle.planner.specs.Sources.{acted, name, source_of};
-ghost use Rattle.planner.specs.Sending.{rested, due_letter, due_of, first_due, lowest_due, sends_due, sends, sent, send_answer};
+ghost use Rattle.planner.specs.Sending.{rested, due_letter, due_of, lowest_due, sends_due, sends, sent, send_answer};
 ghost use Rattle.planner.specs.Windows.{free, is_free, slot_of, waiting, window_of};
 ghost use Rattle.std.specs.Option.{option_map};
 
 use super::Planner;
 use crate::refusal::PlannerRefusal;
-use crate::slot::{Slot, WINDOW};
+use crate::slot::Slot;
 use crate::state::PlannerState;
 use frame::{Frame, Number};
 use letter::Letter;
@@ -26,48 +26,6 @@ pub struct Sent {
 struct Due {
     place: usize,
     letter: Letter,
-}
-
-// Compares by a difference, since the last sending and the gap may add up to more than a clock can show.
-fn is_rested(gap: u64, clock: u64, sent: Option<u64>) -> bool
-    ensures { result ≡ rested gap clock sent }
-{
-    match sent {
-        None => true,
-        Some(at) => at <= clock && gap <= clock - at,
-    }
-}
-
-// The letter in the slot of number n, if it is due.
-fn due_in(slot: Slot, gap: u64, credit: u64, clock: u64, n: u64) -> Option<Letter>
-    ensures { option_map content result ≡ due_letter gap credit clock n (slot_of slot) }
-{
-    match slot {
-        Slot::Waiting(letter, sent) => {
-            if n <= credit && is_rested(gap, clock, sent) {
-                Some(letter)
-            } else {
-                None
-            }
-        }
-        Slot::Free | Slot::Receipted => None,
-    }
-}
-
-// The lowest letter that is due, where the first slot is that of number b.
-fn first_due(slots: &[Slot; WINDOW], gap: u64, credit: u64, clock: u64, b: u64) -> Option<Due>
-    requires { b ≤ 9223372036854775808 }
-    ensures value { option_map due_of result ≡ first_due gap credit clock b 0 (window_of slots.now) }
-    ensures stands { IfSome result (λ d. (d.place < 8)
-        × (is_free (slice_index_or (window_of slots.now) d.place free) ≡ false)) }
-{
-    for k in 0..WINDOW {
-        match due_in(slots[k], gap, credit, clock, b + k as u64) {
-            Some(letter) => return Some(Due { place: k, letter }),
-            None => {}
-        }
-    }
-    None
 }
 
 // The slot of a letter that is sent at this clock: it stays until its receipt comes.
@@ -89,12 +47,44 @@ impl Planner {
         }
     }
 
+    // Whether a letter that was last sent then may be sent again at this clock.
+    // Compares by a difference, since the last sending and the gap may add up to more than a clock can show.
+    fn is_rested(&self, clock: u64, sent: Option<u64>) -> bool
+        ensures { result ≡ rested self.now.gap clock sent }
+    {
+        sent.is_none_or(|at| at <= clock && self.gap <= clock - at)
+    }
+
+    // The letter in the slot of number n, if it is due at this clock.
+    fn due_in(&self, slot: Slot, clock: u64, n: u64) -> Option<Letter>
+        ensures { option_map content result ≡ due_letter self.now.gap self.now.credit clock n (slot_of slot) }
+    {
+        match slot {
+            Slot::Waiting(letter, sent) => {
+                (n <= self.credit && self.is_rested(clock, sent)).then_some(letter)
+            }
+            _ => None,
+        }
+    }
+
+    // The lowest letter that is due at this clock.
+    fn first_due(&self, clock: u64) -> Option<Due>
+        ensures value { option_map due_of result ≡ lowest_due clock (source_of self.now) }
+        ensures stands { IfSome result (λ d. (d.place < 8)
+            × (is_free (slice_index_or (window_of self.now.slots) d.place free) ≡ false)) }
+    {
+        self.slots.iter().enumerate().find_map(|(place, slot)| {
+            let letter = self.due_in(*slot, clock, self.lowest + place as u64)?;
+            Some(Due { place, letter })
+        })
+    }
+
     fn send_due(&mut self, clock: u64) -> Option<Sent>
         requires { is_some self.old.held ≡ true }
         ensures { acted self.new (Ok (sent result)) ≡
             sends_due (lowest_due clock (source_of self.old)) clock (source_of self.old) }
     {
-        let due = first_due(&self.slots, self.gap, self.credit, clock, self.lowest)?;
+        let due = self.first_due(clock)?;
         let number = self.lowest + due.place as u64;
         self.slots[due.place] = once_sent(due.letter, clock);
         let frame = self.sequence_frame(number, due.letter);
@@ -108,15 +98,9 @@ impl Planner {
         requires high { number ≤ 9223372036854775807 }
         ensures { meaning result ≡ sequence (name (source_of self.now)) number (content letter) }
     {
-        let Some(identifier) = self.held else {
-            unreachable()
-        };
-        let Some(number) = Number::new(number) else {
-            unreachable()
-        };
         Frame::Sequence {
-            identifier,
-            number,
+            identifier: self.held.unwrap(),
+            number: Number::new(number).unwrap(),
             letter,
         }
     }

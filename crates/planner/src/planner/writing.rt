@@ -19,10 +19,10 @@ impl Planner {
             writes bytes.now (source_of self.old) }
     {
         match self.state {
-            PlannerState::Created => match Letter::new(bytes) {
-                Some(letter) => self.add(letter),
-                None => Err(PlannerRefusal::LetterSize),
-            },
+            PlannerState::Created => {
+                let letter = Letter::new(bytes).ok_or(PlannerRefusal::LetterSize)?;
+                self.add(letter)
+            }
             state => Err(PlannerRefusal::State(state)),
         }
     }

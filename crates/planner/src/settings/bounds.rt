@@ -14,13 +14,9 @@ impl Settings {
     ) -> Result<Settings, SettingsRefusal>
         ensures { chosen result ≡ chosen_of identifier gap limit admits }
     {
-        let Some(identifier) = Identifier::new(identifier) else {
-            return Err(SettingsRefusal::Identifier);
-        };
-        let Some(limit) = Number::new(limit) else {
-            return Err(SettingsRefusal::GapOrLimit);
-        };
-        if gap < 1 || gap > 86_400 {
+        let identifier = Identifier::new(identifier).ok_or(SettingsRefusal::Identifier)?;
+        let limit = Number::new(limit).ok_or(SettingsRefusal::GapOrLimit)?;
+        if !(1..=86_400).contains(&gap) {
             return Err(SettingsRefusal::GapOrLimit);
         }
         Ok(Settings {
@@ -61,9 +57,6 @@ impl SettingsRefusal {
     pub fn number(self) -> u8
         ensures { result ≡ refusal_number self }
     {
-        match self {
-            SettingsRefusal::Identifier => 11,
-            SettingsRefusal::GapOrLimit => 12,
-        }
+        self as u8
     }
 }

@@ -1,4 +1,4 @@
-use Rattle.std.proofs.Common.{◌+◌, ◌-◌, sym, refl, subst, arith, length-set}
+use Rattle.std.proofs.Common.{◌≡◌, ◌+◌, ◌-◌, sym, refl, subst, arith}
 use Rattle.std.proofs.lemmas.List.{map-set}
 use Rattle.letter.specs.Letters.{content}
 use Rattle.planner.specs.Sources.{source_of}
@@ -7,26 +7,20 @@ use Rattle.planner.proofs.Slots.{free_set, lowest_set}
 use Rattle.planner.proofs.Writes.{added}
 use Rattle.planner.proofs.planner.Planner.add.Goals as goal
 
-pub invariant_of-self : goal.invariant_of-self
-invariant_of-self c =
+pub invariant_of-self-clause-rest : goal.invariant_of-self-clause-rest
+invariant_of-self-clause-rest c =
     let p = c.args.self.now in
     let number = c.in_ok-number.number in
-    let is = c.in_ok-number.ensures.bounds in
-    let same = sym (map-set slot_of p.slots (number - p.lowest) _) in
-    let rest = free_set (window_of p.slots) (p.written + 1 - p.lowest) (number + 1 - p.lowest) (number - p.lowest) _ (omega arith) (omega arith) p.rest in
-    record {
-      whole = simp length-set p.whole;
-      limited = is.1;
-      bounded = p.bounded;
-      counted = p.counted;
-      reached = omega arith;
-      near = is.2;
-      rest = subst (FreeFrom (number + 1 - p.lowest)) same rest;
-      first = subst Lowest same (lowest_set (window_of p.slots) (number - p.lowest) _ refl p.first);
-      known = p.known;
-      nameless = p.nameless;
-      creditless = p.creditless;
-    }
+    let at = number - p.lowest in
+    let next : number ≡ p.written + 1 = c.in_ok-number.ensures.bounds.0 in
+    subst (FreeFrom (number + 1 - p.lowest)) (sym (map-set slot_of p.slots at _))
+    (free_set (window_of p.slots) (p.written + 1 - p.lowest) (number + 1 - p.lowest) at _ (omega arith) (omega arith) p.rest)
+
+pub invariant_of-self-clause-first : goal.invariant_of-self-clause-first
+invariant_of-self-clause-first c =
+    let p = c.args.self.now in
+    let at = c.in_ok-number.number - p.lowest in
+    subst Lowest (sym (map-set slot_of p.slots at _)) (lowest_set (window_of p.slots) at _ refl p.first)
 
 pub returns : goal.returns
 returns c =

@@ -1,29 +1,15 @@
-use Rattle.std.proofs.Common.{◌≡◌, ◌+◌, cond, drop, sym, ap, ◌∙◌, arith}
-use Rattle.std.proofs.lemmas.List.{at_drop_all}
-use Rattle.planner.specs.Receipts.{in_front}
-use Rattle.planner.specs.Windows.{window_of}
-use Rattle.planner.proofs.Turns.{front_more}
+use Rattle.std.proofs.Common.{rules, tests, ◌∙◌}
+use Rattle.std.proofs.lemmas.Iterator.{YieldsList-from_slice}
+use Rattle.std.proofs.lemmas.Iterator.Consumers.{count_from_yields_List}
+use Rattle.std.proofs.lemmas.Iterator.Search.{YieldsList-from_take_while}
+use Rattle.std.proofs.lemmas.List.Folds.{length-prefix_len}
+use Rattle.planner.proofs.Turns.{receipted, front_is}
 use Rattle.planner.proofs.planner.receipts.front_of.Goals as goal
 
-pub loop-k-preserved : goal.loop-k-preserved
-loop-k-preserved c =
+pub returns-clause-value : goal.returns-clause-value
+returns-clause-value c =
     let slots = c.args.slots.now in
-    let k = c.loop-k.k in
-    let rest = in_front (window_of (drop (k + 1) slots)) in
-    let e : in_front (window_of (drop k slots)) ≡ rest + 1 =
-    front_more slots k c.index-slots-k.result (omega arith) ∙ ap (λ b. cond b (rest + 1) 0) (sym c.if-not-is_receipted.ensures) in
-    omega (arith, c.loop-k.invariant)
-
-pub returns : goal.returns
-returns c =
-    let e = at_drop_all (λ xs. in_front (window_of xs)) c.args.slots.now c.loop-k.k (omega arith) in
-    record { value = omega (arith, c.loop-k.invariant); few = omega arith }
-
-pub returns-then-not-is_receipted : goal.returns-then-not-is_receipted
-returns-then-not-is_receipted c =
-    let slots = c.args.slots.now in
-    let k = c.loop-k.k in
-    let rest = in_front (window_of (drop (k + 1) slots)) in
-    let e : in_front (window_of (drop k slots)) ≡ 0 =
-    front_more slots k c.index-slots-k.result (omega arith) ∙ ap (λ b. cond b (rest + 1) 0) (sym c.if-not-is_receipted.ensures) in
-    record { value = omega (arith, c.loop-k.invariant); few = omega arith }
+    count_from_yields_List c.take_while.result _ c.count.ensures.ran
+    (YieldsList-from_take_while _ receipted (YieldsList-from_slice slots (cc)) c.take_while.ensures.closure c.take_while.ensures.done
+    (λ x b q k. search (rules, tests))) ∙
+    length-prefix_len receipted slots ∙ front_is slots

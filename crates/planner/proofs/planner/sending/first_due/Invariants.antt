@@ -1,9 +1,0 @@
-use Rattle.std.proofs.Common.{◌≡◌, drop}
-use Rattle.planner.specs.Sending.{first_due}
-use Rattle.planner.specs.Windows.{window_of}
-use Rattle.planner.proofs.planner.sending.first_due.Given as goal
-
-abbrev pub invariant-loop-k : goal.invariant-loop-k
-invariant-loop-k l =
-    first_due l.gap l.credit l.clock l.b l.k (window_of (drop l.k l.slots)) ≡
-    first_due l.gap l.credit l.clock l.b 0 (window_of l.slots)
