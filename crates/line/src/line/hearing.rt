@@ -27,7 +27,6 @@ impl<O: Transport, B: Transport, K: Taker> Line<O, B, K> {
         ensures { HearsBytes O.Transport B.Transport K.Taker bytes.now (form_if result)
             self.old self.new }
     {
-        let form = self.planner.hear(bytes)?;
-        Ok(Some(form))
+        Ok(Some(self.planner.hear(bytes)?))
     }
 }
