@@ -12,7 +12,7 @@ use Rattle.protocol.specs.Calls.{Call, Event, event}
 use Rattle.protocol.specs.Lines.{Over, Line}
 use Rattle.protocol.specs.Runs.{Run, start, more}
 use Rattle.protocol.specs.Steps.{Made}
-use Rattle.protocol.specs.Turns.{Until, enough, last, again, most}
+use Rattle.protocol.specs.Turns.{Until, enough, last, again}
 use Rattle.protocol.proofs.Safety.{runs_are_safe}
 use Rattle.runs.specs.Calls.{call_of}
 use Rattle.runs.specs.Recorded.{Ran}

@@ -6,11 +6,11 @@ use Rattle.answer.specs.declared.turn.Phase.{Phase}
 use Rattle.answer.specs.declared.turn.TurnReport.{TurnReport}
 use Rattle.line.specs.Meaning.{over, model}
 use Rattle.line.specs.declared.line.Line as code
-use Rattle.protocol.specs.Calls.{Call, Event, delivering, sending, asking, reading, hearing}
+use Rattle.protocol.specs.Calls.{Call, Event, asking}
 use Rattle.protocol.specs.Lines.{Over, Line}
 use Rattle.protocol.specs.Runs.{Run}
 use Rattle.protocol.specs.Steps.{Made}
-use Rattle.protocol.specs.Turns.{Until, enough, last, again, most, Turn, turn}
+use Rattle.protocol.specs.Turns.{Until, enough, last, again, Turn, turn}
 use Rattle.protocol.proofs.Safety.{runs_are_safe}
 use Rattle.protocol.proofs.Turning.{two_turns_settle}
 use Rattle.runs.specs.Turned.{Parts, StaysSafe, Turned, TurnedTwice}

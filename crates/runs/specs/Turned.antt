@@ -1,15 +1,11 @@
 -- What a turn and two turns make of a line, and what is promised of them.
-use Rattle.std.specs.Prelude.{◌≡◌, ℕ, List}
-use Rattle.answer.specs.Phases.{once}
-use Rattle.answer.specs.declared.answer.Answer.{Answer}
-use Rattle.answer.specs.declared.turn.Phase.{Phase}
+use Rattle.std.specs.Prelude.{ℕ, List}
 use Rattle.answer.specs.declared.turn.TurnReport.{TurnReport}
 use Rattle.line.specs.Meaning.{over, model}
 use Rattle.line.specs.declared.line.Line as code
-use Rattle.protocol.specs.Calls.{Call, Event, asking, delivering, hearing, reading, sending}
+use Rattle.protocol.specs.Calls.{Event, asking, delivering, hearing, reading, sending}
 use Rattle.protocol.specs.Lines.{Line, Fresh}
 use Rattle.protocol.specs.Runs.{Run}
-use Rattle.protocol.specs.Steps.{Made}
 use Rattle.protocol.specs.Turns.{Turn, Until, Ready, Settled, most}
 use Rattle.runs.specs.Recorded.{GoesOn}
 use Rattle.taker.specs.declared.taker.Taker as taker

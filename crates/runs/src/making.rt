@@ -13,6 +13,9 @@ use planner::Draft;
 use taker::Taker;
 use transport::Transport;
 
+// The three types of a line stand on each function here, in `running` and in `turning`. A private trait or wrapper over
+// a line would be named beside them, and not in their place, since the public contracts speak of `Line` itself.
+
 // Makes the call. Whatever calls were made on this line before, from a fresh line on, all promises hold still.
 pub fn make<O: Transport, B: Transport, K: Taker>(line: &mut Line<O, B, K>, call: &Call) -> Answer
     ensures step { Makes O.Transport B.Transport K.Taker (call_of call.now) result
