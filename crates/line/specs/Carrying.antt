@@ -1,13 +1,15 @@
 -- What a get of a line's own means: its memory has 800 bytes, so it is never refused.
-use Rattle.std.specs.Prelude.{◌≡◌, ℕ, Some, None, Option}
+use Rattle.std.specs.Prelude.{◌≡◌, ℕ, Some, None, Option, Result}
 use Rattle.answer.specs.declared.answer.Answer.{Answer}
+use Rattle.frame.specs.Meanings.{Meaning}
 use Rattle.grammar.specs.Grammar.{reading}
 use Rattle.line.specs.declared.line.Line as code
 use Rattle.office.specs.Reads.{reads_seen, reply_of}
 use Rattle.office.specs.Seen.{seen}
 use Rattle.planner.specs.Hearing.{hears_read}
-use Rattle.planner.specs.Sources.{source_of}
-use Rattle.protocol.specs.Steps.{Handed, Missed, Puts, heard, was_read}
+use Rattle.planner.specs.Sources.{Source, source_of}
+use Rattle.planner.specs.declared.refusal.PlannerRefusal.{PlannerRefusal}
+use Rattle.protocol.specs.Steps.{Handed, Missed, Puts, done_by, heard, was_read}
 use Rattle.taker.specs.declared.taker.Taker as taker
 use Rattle.transport.specs.Meaning.{Bytes, Frames}
 use Rattle.transport.specs.declared.transport.Transport as transport
@@ -16,6 +18,11 @@ use Rattle.transport.specs.declared.transport.Transport as transport
 abbrev pub Gets : ℕ → Frames → Option Bytes → Frames → Type 0
 Gets depth before None after = Missed depth before after
 Gets depth before (Some frame) after = Handed depth before frame after
+
+-- the frame that the planner's end said is put, or its refusal passed on; its own state is said apart
+abbrev pub Says : ℕ → Frames → Result Meaning PlannerRefusal → Answer → Frames → Type 0
+Says depth before r a after =
+    (s : Source) → (a ≡ (done_by s r).answer) × Puts depth before (done_by s r).frame after
 
 -- What the bytes of a frame that came make of a line; how it came is said apart.
 module _ {O B K : Type 0} (o : transport.Ghosts O) (b : transport.Ghosts B) (k : taker.Ghosts K) where

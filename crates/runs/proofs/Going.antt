@@ -12,7 +12,7 @@ use Rattle.protocol.specs.Calls.{Call, Event, event}
 use Rattle.protocol.specs.Lines.{Over, Line}
 use Rattle.protocol.specs.Runs.{Run, start, more}
 use Rattle.protocol.specs.Steps.{Made}
-use Rattle.protocol.specs.Turns.{Until, enough, last, again, most}
+use Rattle.protocol.specs.Turns.{Until, enough, last, again}
 use Rattle.protocol.proofs.Safety.{runs_are_safe}
 use Rattle.runs.specs.Calls.{call_of}
 use Rattle.runs.specs.Recorded.{Ran}
@@ -104,23 +104,23 @@ module _ (w : Over) (c : Call) (A M : Line) where
       subst (λ (y : ℕ). Until w c t (record { count = y; refused = p.refused }) A M) z
       (ends K k (suc m) t (one_more p) (omega arith) g (again x s u))
 
-  -- it stopped at its i-th call, counted from 0; n is what was counted
+  -- it stopped at its i-th call, counted from 0, of t at most
   pub stopped :
-      (L : Line) (n i : ℕ) (a : Answer) → n ≡ i → Going w c A i L → i < 64 → Made w c a L M → stops a ≡ true →
-      Until w c most (record { count = n; refused = refusal_of a }) A M
-  stopped L n i a e g lt m s =
-      let z : i + 0 ≡ n = omega arith in
-      subst (λ (y : ℕ). Until w c most (record { count = y; refused = refusal_of a }) A M) z
-      (ends L i (suc (63 - i)) most (ending a) (omega arith) g (last m s))
+      (L : Line) (i t : ℕ) (a : Answer) → Going w c A i L → i < t → Made w c a L M → stops a ≡ true →
+      Until w c t (record { count = i; refused = refusal_of a }) A M
+  stopped L i t a g lt m s =
+      let z : i + 0 ≡ i = omega arith in
+      subst (λ (y : ℕ). Until w c t (record { count = y; refused = refusal_of a }) A M) z
+      (ends L i (suc (t - suc i)) t (ending a) (omega arith) g (last m s))
 
   -- it was made as often as it may be
   pub cut_off :
-      (n i : ℕ) → n ≡ i → Going w c A i M → i ≤ 64 → 64 ≤ i →
-      Until w c most (record { count = n; refused = None }) A M
-  cut_off n i e g x y =
-      let z : i + 0 ≡ n = omega arith in
-      subst (λ (k : ℕ). Until w c most (record { count = k; refused = None }) A M) z
-      (ends M i 0 most none_made (omega arith) g enough)
+      (i t : ℕ) → Going w c A i M → i ≤ t → t ≤ i →
+      Until w c t (record { count = t; refused = None }) A M
+  cut_off i t g x y =
+      let z : i + 0 ≡ t = omega arith in
+      subst (λ (k : ℕ). Until w c t (record { count = k; refused = None }) A M) z
+      (ends M i 0 t none_made (omega arith) g enough)
 
   -- one call more
   pub went_on :

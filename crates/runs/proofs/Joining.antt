@@ -3,11 +3,17 @@ use Rattle.std.proofs.Common.{ℕ, List, [], ◌∷◌, ◌++◌}
 use Rattle.answer.specs.declared.answer.Answer.{Answer}
 use Rattle.answer.specs.declared.turn.Phase.{Phase}
 use Rattle.answer.specs.declared.turn.TurnReport.{TurnReport}
+use Rattle.line.specs.Meaning.{over, model, Makes}
+use Rattle.line.specs.declared.line.Line as code
 use Rattle.protocol.specs.Calls.{Call, Event, event}
 use Rattle.protocol.specs.Lines.{Over, Line}
 use Rattle.protocol.specs.Runs.{Run, start, more}
 use Rattle.protocol.specs.Steps.{Made}
 use Rattle.protocol.specs.Turns.{Until, enough, last, again, Turn, turn}
+use Rattle.protocol.proofs.Safety.{runs_are_safe}
+use Rattle.runs.specs.Recorded.{Continues}
+use Rattle.taker.specs.declared.taker.Taker as taker
+use Rattle.transport.specs.declared.transport.Transport as transport
 
 pub joins :
     (w : Over) (first K M : Line) (es fs : List Event) → Run w first es K → Run w K fs M →
@@ -43,3 +49,10 @@ turn_runs w clock told L M (turn {B = B} {C = C} {D = D} {E = E} {F = F} {d = d}
     let e = joins w L D E _ _ d r4.1 in
     let f = joins w L E F _ _ e r5.1 in
     (_, joins w L F M _ _ f r6.1)
+
+-- a call that made its step goes on from every run, and safely
+module _ {O B K : Type 0} (o : transport.Ghosts O) (b : transport.Ghosts B) (k : taker.Ghosts K) where
+  pub continues :
+      (c : Call) (a : Answer) (before after : code.Line O B K) → Makes o b k c a before after → Continues o b k c a before after
+  continues c a before after m =
+      λ first es f r. (m.got, record { run = more r m; safe = runs_are_safe (over o b k) first (model o b k after) (event c m.got a ∷ es) f (more r m) })

@@ -1,18 +1,32 @@
 -- A turn of the code is a turn, and keeps a safe run safe.
-use Rattle.std.proofs.Common.{ℕ, List, ◌++◌, sym, subst}
+use Rattle.std.proofs.Common.{◌≡◌, ℕ, List, ◌++◌, sym, refl, subst, arith}
+use Rattle.answer.specs.Phases.{once}
+use Rattle.answer.specs.declared.answer.Answer.{Answer}
 use Rattle.answer.specs.declared.turn.Phase.{Phase}
 use Rattle.answer.specs.declared.turn.TurnReport.{TurnReport}
 use Rattle.line.specs.Meaning.{over, model}
 use Rattle.line.specs.declared.line.Line as code
-use Rattle.protocol.specs.Calls.{Event, delivering, sending, asking, reading, hearing}
+use Rattle.protocol.specs.Calls.{Call, Event, asking}
+use Rattle.protocol.specs.Lines.{Over, Line}
 use Rattle.protocol.specs.Runs.{Run}
-use Rattle.protocol.specs.Turns.{Until, most, Turn, turn}
+use Rattle.protocol.specs.Steps.{Made}
+use Rattle.protocol.specs.Turns.{Until, enough, last, again, Turn, turn}
 use Rattle.protocol.proofs.Safety.{runs_are_safe}
 use Rattle.protocol.proofs.Turning.{two_turns_settle}
-use Rattle.runs.specs.Turned.{Once, StaysSafe, Turned, TurnedTwice}
+use Rattle.runs.specs.Turned.{Parts, StaysSafe, Turned, TurnedTwice}
 use Rattle.runs.proofs.Joining.{joins, turn_runs}
 use Rattle.taker.specs.declared.taker.Taker as taker
 use Rattle.transport.specs.declared.transport.Transport as transport
+
+-- a call that is made until nothing comes, and once at most
+at_most_once :
+    (w : Over) (c : Call) (n : ℕ) (p : Phase) (L M : Line) → n ≡ 1 → Until w c n p L M →
+    (a : Answer) × (p ≡ once a) × Made w c a L M
+at_most_once w c n p L M e enough = absurd (omega (arith, e))
+at_most_once w c n p L M e (last {a = a} m s) = (a, rw s refl, m)
+at_most_once w c n p L M e (again {a = a} m s enough) = (a, rw s refl, m)
+at_most_once w c n p L M e (again m s (last k t)) = absurd (omega (arith, e))
+at_most_once w c n p L M e (again m s (again k t u)) = absurd (omega (arith, e))
 
 module _ {O B K : Type 0} (o : transport.Ghosts O) (b : transport.Ghosts B) (k : taker.Ghosts K) where
   -- calls that are a run keep a safe run safe
@@ -25,25 +39,14 @@ module _ {O B K : Type 0} (o : transport.Ghosts O) (b : transport.Ghosts B) (k :
 
   pub turned :
       (clock : ℕ) (told : TurnReport) (before after : code.Line O B K) →
-      Turn (over o b k) clock told (model o b k before) (model o b k after) →
-      Turned o b k clock told before after
-  turned clock told before after t =
+      Parts o b k clock told before after → Turned o b k clock told before after
+  turned clock told before after (A, t1, B, t2, C, t3, D, t4, E, t5, t6) =
+      let asked = at_most_once (over o b k) asking 1 told.ask B C refl t3 in
+      let t =
+      subst (λ (x : Phase). Turn (over o b k) clock (record { deliver = told.deliver; send = told.send; ask = x; read = told.read; deliver_again = told.deliver_again; hear = told.hear }) (model o b k before) (model o b k after))
+      (sym asked.1) (turn t1 t2 asked.2 t4 t5 t6) in
       let r = turn_runs (over o b k) clock told (model o b k before) (model o b k after) t in
       record { turn = t; safe = run_safe before after r.0 r.1 }
-
-  pub a_turn :
-      (clock : ℕ) (d s p r e h : Phase) (l0 l1 l2 l3 l4 l5 l6 : code.Line O B K) →
-      Until (over o b k) delivering most d (model o b k l0) (model o b k l1) →
-      Until (over o b k) (sending clock) most s (model o b k l1) (model o b k l2) →
-      Once o b k asking p l2 l3 →
-      Until (over o b k) reading most r (model o b k l3) (model o b k l4) →
-      Until (over o b k) delivering most e (model o b k l4) (model o b k l5) →
-      Until (over o b k) hearing most h (model o b k l5) (model o b k l6) →
-      Turned o b k clock (record { deliver = d; send = s; ask = p; read = r; deliver_again = e; hear = h }) l0 l6
-  a_turn clock d s p r e h l0 l1 l2 l3 l4 l5 l6 t1 t2 t3 t4 t5 t6 =
-      turned clock _ l0 l6
-      (subst (λ (x : Phase). Turn (over o b k) clock (record { deliver = d; send = s; ask = x; read = r; deliver_again = e; hear = h }) (model o b k l0) (model o b k l6))
-      (sym t3.came_to) (turn t1 t2 t3.made t4 t5 t6))
 
   pub twice :
       (clock : ℕ) (one two : TurnReport) (before between after : code.Line O B K) →

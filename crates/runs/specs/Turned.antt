@@ -1,26 +1,26 @@
 -- What a turn and two turns make of a line, and what is promised of them.
-use Rattle.std.specs.Prelude.{◌≡◌, ℕ, List}
-use Rattle.answer.specs.Phases.{once}
-use Rattle.answer.specs.declared.answer.Answer.{Answer}
-use Rattle.answer.specs.declared.turn.Phase.{Phase}
+use Rattle.std.specs.Prelude.{ℕ, List}
 use Rattle.answer.specs.declared.turn.TurnReport.{TurnReport}
 use Rattle.line.specs.Meaning.{over, model}
 use Rattle.line.specs.declared.line.Line as code
-use Rattle.protocol.specs.Calls.{Call, Event}
+use Rattle.protocol.specs.Calls.{Event, asking, delivering, hearing, reading, sending}
 use Rattle.protocol.specs.Lines.{Line, Fresh}
 use Rattle.protocol.specs.Runs.{Run}
-use Rattle.protocol.specs.Steps.{Made}
-use Rattle.protocol.specs.Turns.{Turn, Ready, Settled}
+use Rattle.protocol.specs.Turns.{Turn, Until, Ready, Settled, most}
 use Rattle.runs.specs.Recorded.{GoesOn}
 use Rattle.taker.specs.declared.taker.Taker as taker
 use Rattle.transport.specs.declared.transport.Transport as transport
 
 module _ {O B K : Type 0} (o : transport.Ghosts O) (b : transport.Ghosts B) (k : taker.Ghosts K) where
-  -- one call, and what it came to
-  pub record Once (c : Call) (p : Phase) (before after : code.Line O B K) : Type 0 where
-    pub answer : Answer
-    pub came_to : p ≡ once answer
-    pub made : Made (over o b k) c answer (model o b k before) (model o b k after)
+  -- the parts of a turn, one after another, each from the line that the part before it left
+  abbrev pub Parts : ℕ → TurnReport → code.Line O B K → code.Line O B K → Type 0
+  Parts clock told before after =
+      (A : Line) × Until (over o b k) delivering most told.deliver (model o b k before) A
+      × (B : Line) × Until (over o b k) (sending clock) most told.send A B
+      × (C : Line) × Until (over o b k) asking 1 told.ask B C
+      × (D : Line) × Until (over o b k) reading most told.read C D
+      × (E : Line) × Until (over o b k) delivering most told.deliver_again D E
+      × Until (over o b k) hearing most told.hear E (model o b k after)
 
   -- whatever run led here from a fresh line, with the calls made since it is a safe run
   abbrev pub StaysSafe : code.Line O B K → code.Line O B K → Type 0

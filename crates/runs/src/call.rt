@@ -1,6 +1,7 @@
 use crate::path::ValidPath;
 
-// One of the ten calls of a line, with what it is given.
+// One of the ten calls of a line, with what it is given. A value and no closure: a run is a list of calls that is
+// recorded, and the theorems speak of the named call.
 #[derive(Drop)]
 pub enum Call {
     Open,

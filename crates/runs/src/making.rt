@@ -1,5 +1,5 @@
 ghost use Rattle.std.specs.Prelude.{◌≡◌, IfErr};
-ghost use Rattle.line.specs.Answers.{done, form_if, number, number_if, posted};
+ghost use Rattle.line.specs.Answers.{posted};
 ghost use Rattle.line.specs.Meaning.{Makes};
 ghost use Rattle.protocol.specs.Calls.{posting};
 ghost use Rattle.runs.specs.Calls.{call_of, path_in};
@@ -8,11 +8,13 @@ ghost use Rattle.runs.specs.Recorded.{Continues};
 use crate::call::Call;
 use crate::path::ValidPath;
 use answer::{Answer, LineRefusal};
-use frame::Form;
 use line::Line;
 use planner::Draft;
 use taker::Taker;
 use transport::Transport;
+
+// The three types of a line stand on each function here, in `running` and in `turning`. A private trait or wrapper over
+// a line would be named beside them, and not in their place, since the public contracts speak of `Line` itself.
 
 // Makes the call. Whatever calls were made on this line before, from a fresh line on, all promises hold still.
 pub fn make<O: Transport, B: Transport, K: Taker>(line: &mut Line<O, B, K>, call: &Call) -> Answer
@@ -29,16 +31,16 @@ fn make_call<O: Transport, B: Transport, K: Taker>(line: &mut Line<O, B, K>, cal
         line.old line.new }
 {
     match call {
-        Call::Open => was_done(line.open()),
-        Call::Write(bytes) => with_number(line.write(bytes)),
+        Call::Open => line.open().into(),
+        Call::Write(bytes) => line.write(bytes).into(),
         Call::Post(path) => post_path(line, *path),
-        Call::Send(clock) => with_number_if(line.send(*clock)),
-        Call::Ask => was_done(line.ask()),
-        Call::Hear => with_form_if(line.hear()),
-        Call::Close => was_done(line.close()),
-        Call::Finish => was_done(line.finish()),
-        Call::Read => with_form_if(line.read()),
-        Call::Deliver => with_number_if(line.deliver()),
+        Call::Send(clock) => line.send(*clock).into(),
+        Call::Ask => line.ask().into(),
+        Call::Hear => line.hear().into(),
+        Call::Close => line.close().into(),
+        Call::Finish => line.finish().into(),
+        Call::Read => line.read().into(),
+        Call::Deliver => line.deliver().into(),
     }
 }
 
@@ -66,52 +68,9 @@ fn post_path<O: Transport, B: Transport, K: Taker>(
 {
     match line.post(path.draft()) {
         Ok(number) => Answer::Number(number),
-        Err(refused) => {
-            let (why, draft) = refused;
+        Err((why, draft)) => {
             draft.tear();
             Answer::Refused(why)
         }
-    }
-}
-
-fn was_done(r: Result<(), LineRefusal>) -> Answer
-    ensures { result ≡ done r }
-{
-    match r {
-        Ok(()) => Answer::Done,
-        Err(why) => Answer::Refused(why),
-    }
-}
-
-fn with_number(r: Result<u64, LineRefusal>) -> Answer
-    ensures { result ≡ number r }
-{
-    match r {
-        Ok(n) => Answer::Number(n),
-        Err(why) => Answer::Refused(why),
-    }
-}
-
-fn with_number_if(r: Result<Option<u64>, LineRefusal>) -> Answer
-    ensures { result ≡ number_if r }
-{
-    match r {
-        Ok(came) => match came {
-            Some(n) => Answer::Number(n),
-            None => Answer::Nothing,
-        },
-        Err(why) => Answer::Refused(why),
-    }
-}
-
-fn with_form_if(r: Result<Option<Form>, LineRefusal>) -> Answer
-    ensures { result ≡ form_if r }
-{
-    match r {
-        Ok(came) => match came {
-            Some(form) => Answer::Form(form),
-            None => Answer::Nothing,
-        },
-        Err(why) => Answer::Refused(why),
     }
 }

@@ -1,8 +1,7 @@
 ghost use Rattle.line.specs.Meaning.{over, model};
-ghost use Rattle.protocol.specs.Calls.{delivering, hearing, reading, sending};
-ghost use Rattle.protocol.specs.Turns.{Until, most};
+ghost use Rattle.protocol.specs.Turns.{Until};
 ghost use Rattle.runs.specs.Calls.{call_of};
-ghost use Rattle.runs.specs.Turned.{Once, Turned, TurnedTwice};
+ghost use Rattle.runs.specs.Turned.{Parts, Turned, TurnedTwice};
 
 use crate::call::Call;
 use crate::making::make;
@@ -22,20 +21,7 @@ pub fn turn<O: Transport, B: Transport, K: Taker>(
 ) -> TurnReport
     ensures { Turned O.Transport B.Transport K.Taker clock result line.old line.new }
 {
-    let deliver = deliver_all(line);
-    let send = send_all(line, clock);
-    let ask = once(line, &Call::Ask);
-    let read = read_all(line);
-    let deliver_again = deliver_all(line);
-    let hear = hear_all(line);
-    TurnReport {
-        deliver,
-        send,
-        ask,
-        read,
-        deliver_again,
-        hear,
-    }
+    parts_of_turn(line, clock)
 }
 
 // Two turns with one clock. Over transports that keep all they leave every letter written delivered and receipted,
@@ -52,49 +38,34 @@ pub fn two_turns<O: Transport, B: Transport, K: Taker>(
     (first, second)
 }
 
-fn deliver_all<O: Transport, B: Transport, K: Taker>(line: &mut Line<O, B, K>) -> Phase
-    ensures { Until (over O.Transport B.Transport K.Taker) delivering most result
-        (model O.Transport B.Transport K.Taker line.old)
-        (model O.Transport B.Transport K.Taker line.new) }
+// The six parts of a turn in their order.
+fn parts_of_turn<O: Transport, B: Transport, K: Taker>(
+    line: &mut Line<O, B, K>,
+    clock: u64,
+) -> TurnReport
+    ensures { Parts O.Transport B.Transport K.Taker clock result line.old line.new }
 {
-    until_nothing(line, &Call::Deliver)
+    TurnReport {
+        deliver: until_nothing(line, &Call::Deliver, MOST),
+        send: until_nothing(line, &Call::Send(clock), MOST),
+        ask: until_nothing(line, &Call::Ask, 1),
+        read: until_nothing(line, &Call::Read, MOST),
+        deliver_again: until_nothing(line, &Call::Deliver, MOST),
+        hear: until_nothing(line, &Call::Hear, MOST),
+    }
 }
 
-fn send_all<O: Transport, B: Transport, K: Taker>(line: &mut Line<O, B, K>, clock: u64) -> Phase
-    ensures { Until (over O.Transport B.Transport K.Taker) (sending clock) most result
-        (model O.Transport B.Transport K.Taker line.old)
-        (model O.Transport B.Transport K.Taker line.new) }
-{
-    until_nothing(line, &Call::Send(clock))
-}
-
-fn read_all<O: Transport, B: Transport, K: Taker>(line: &mut Line<O, B, K>) -> Phase
-    ensures { Until (over O.Transport B.Transport K.Taker) reading most result
-        (model O.Transport B.Transport K.Taker line.old)
-        (model O.Transport B.Transport K.Taker line.new) }
-{
-    until_nothing(line, &Call::Read)
-}
-
-fn hear_all<O: Transport, B: Transport, K: Taker>(line: &mut Line<O, B, K>) -> Phase
-    ensures { Until (over O.Transport B.Transport K.Taker) hearing most result
-        (model O.Transport B.Transport K.Taker line.old)
-        (model O.Transport B.Transport K.Taker line.new) }
-{
-    until_nothing(line, &Call::Hear)
-}
-
-// Makes the call until nothing comes or it is refused.
+// Makes the call until nothing comes or it is refused, and so often at most.
 fn until_nothing<O: Transport, B: Transport, K: Taker>(
     line: &mut Line<O, B, K>,
     call: &Call,
+    at_most: u64,
 ) -> Phase
-    ensures { Until (over O.Transport B.Transport K.Taker) (call_of call.now) most result
+    ensures { Until (over O.Transport B.Transport K.Taker) (call_of call.now) at_most result
         (model O.Transport B.Transport K.Taker line.old)
         (model O.Transport B.Transport K.Taker line.new) }
 {
-    let mut count = 0;
-    for i in 0..MOST {
+    for count in 0..at_most {
         match make(line, call) {
             Answer::Nothing => return Phase {
                 count,
@@ -106,32 +77,11 @@ fn until_nothing<O: Transport, B: Transport, K: Taker>(
                     refused: Some(why),
                 };
             }
-            Answer::Done | Answer::Number(_) | Answer::Form(_) => count += 1,
+            Answer::Done | Answer::Number(_) | Answer::Form(_) => {}
         }
     }
     Phase {
-        count,
+        count: at_most,
         refused: None,
-    }
-}
-
-// Makes the call once.
-fn once<O: Transport, B: Transport, K: Taker>(line: &mut Line<O, B, K>, call: &Call) -> Phase
-    ensures { Once O.Transport B.Transport K.Taker (call_of call.now) result
-        line.old line.new }
-{
-    match make(line, call) {
-        Answer::Refused(why) => Phase {
-            count: 0,
-            refused: Some(why),
-        },
-        Answer::Nothing => Phase {
-            count: 0,
-            refused: None,
-        },
-        Answer::Done | Answer::Number(_) | Answer::Form(_) => Phase {
-            count: 1,
-            refused: None,
-        },
     }
 }

@@ -23,11 +23,12 @@ impl<O: Transport, B: Transport, K: Taker> Line<O, B, K> {
         self.hear_bytes(bytes)
     }
 
+    // What is done with the bytes stands apart here and in `read`: a helper for both that takes it as a closure would
+    // have to say what the closure changes of the line.
     fn hear_bytes(&mut self, bytes: &[u8]) -> Result<Option<Form>, LineRefusal>
         ensures { HearsBytes O.Transport B.Transport K.Taker bytes.now (form_if result)
             self.old self.new }
     {
-        let form = self.planner.hear(bytes)?;
-        Ok(Some(form))
+        Ok(Some(self.planner.hear(bytes)?))
     }
 }

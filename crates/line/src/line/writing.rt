@@ -4,7 +4,6 @@ ghost use Rattle.line.specs.Meaning.{Makes};
 ghost use Rattle.protocol.specs.Calls.{writing, posting};
 
 use super::Line;
-use crate::frames::are_bytes;
 use answer::LineRefusal;
 use planner::Draft;
 use taker::Taker;
@@ -12,13 +11,13 @@ use transport::Transport;
 
 impl<O: Transport, B: Transport, K: Taker> Line<O, B, K> {
     // Gives the letter of these bytes the next number, and answers that.
+    // That these are bytes, as the step asks, is known by their type.
+    #[tactic(auto, using(frame_writer::proofs::Written::all_bytes))]
     pub fn write(&mut self, bytes: &[u8]) -> Result<u64, LineRefusal>
         ensures { Makes O.Transport B.Transport K.Taker (writing bytes.now) (number result)
             self.old self.new }
     {
-        are_bytes(bytes);
-        let number = self.planner.write(bytes)?;
-        Ok(number)
+        Ok(self.planner.write(bytes)?)
     }
 
     // Gives the draft's letter the next number, and answers that; a refusal hands the same draft back.
@@ -27,12 +26,8 @@ impl<O: Transport, B: Transport, K: Taker> Line<O, B, K> {
             self.old self.new }
         ensures back { IfErr result (λ e. e.1 ≡ draft) }
     {
-        match self.planner.post(draft) {
-            Ok(number) => Ok(number),
-            Err(refused) => {
-                let (why, draft) = refused;
-                Err((LineRefusal::Planner(why), draft))
-            }
-        }
+        self.planner
+            .post(draft)
+            .map_err(|(why, draft)| (why.into(), draft))
     }
 }

@@ -12,10 +12,8 @@ impl ValidPath {
     pub fn new(train: u32, section: u32, enter: u32, leave: u32) -> Option<ValidPath>
         ensures { option_map path_in result ≡ path_of train section enter leave }
     {
-        match Path::new(train, section, enter, leave) {
-            Some(path) => Some(ValidPath { path }),
-            None => None,
-        }
+        let path = Path::new(train, section, enter, leave)?;
+        Some(ValidPath { path })
     }
 
     pub fn path(&self) -> Path
@@ -28,14 +26,12 @@ impl ValidPath {
     pub(crate) fn draft(&self) -> Draft
         ensures { result.path ≡ path_in self.now }
     {
-        match Draft::new(
+        Draft::new(
             self.path.train,
             u32::from(self.path.section),
             self.path.enter,
             self.path.leave,
-        ) {
-            Ok(draft) => draft,
-            Err(_) => unreachable(),
-        }
+        )
+        .unwrap()
     }
 }

@@ -1,12 +1,5 @@
-use Rattle.protocol.specs.Runs.{more}
-use Rattle.protocol.proofs.Safety.{runs_are_safe}
+use Rattle.runs.proofs.Joining.{continues}
 use Rattle.runs.proofs.making.post.Goals as goal
 
-pub returns : goal.returns
-returns g c =
-    let m = c.post.ensures.step in
-    record {
-      step = m;
-      back = c.post.ensures.back;
-      safe = λ first es f r. (m.got, record { run = more r m; safe = runs_are_safe _ first _ _ f (more r m) });
-    }
+pub returns-clause-safe : goal.returns-clause-safe
+returns-clause-safe g c = continues g.O.Transport g.B.Transport g.K.Taker _ _ c.args.line.now c.post.new.self c.post.ensures.step
