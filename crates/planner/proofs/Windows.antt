@@ -1,9 +1,19 @@
 -- What the window keeps when receipts come.
-use Rattle.std.proofs.Common.{◌≡◌, ℕ, zero, suc, ◌+◌, ◌-◌, ◌≤◌, Bool, true, false, cond, List, [], ◌∷◌, ◌++◌, get_or, sym, refl, ap, ◌∙◌, append_assoc, append-nil, add-one, arith}
+use Rattle.std.proofs.Common.{◌≡◌, ℕ, zero, suc, ◌+◌, ◌-◌, ◌≤◌, Bool, true, false, cond, List, [], ◌∷◌, ◌++◌, length, get_or, sym, refl, ap, ◌∙◌, append_assoc, append-nil, add-one, arith, length-append, length-drop}
 use Rattle.frame.specs.declared.range.Range.{Range}
 use Rattle.frame.specs.Covers.{covers}
 use Rattle.planner.specs.Receipts.{marked, with_receipts, in_front, shifted, slid}
 use Rattle.planner.specs.Windows.{Slot, free, waiting, receipted, is_free, has_receipt, FreeFrom, Lowest}
+
+-- there are eight slots: protocol cites these two
+
+pub length_marks : (rs : List Range) (n : ℕ) (w : List Slot) → length (with_receipts rs n w) ≡ length w
+length_marks rs n [] = refl
+length_marks rs n (s ∷ w) = ap suc (length_marks rs (n + 1) w)
+
+pub length_slid : (k : ℕ) (w : List Slot) → length w ≡ 8 → length (slid k w) ≡ 8
+length_slid zero w e = e
+length_slid (suc k) w e = length_slid k (shifted w) (simp (length-append, length-drop) (omega arith))
 
 -- a receipt for a number that is not written changes nothing
 

@@ -1,4 +1,4 @@
-ghost use Rattle.std.specs.Prelude.{◌≡◌, ◌≤◌, length};
+ghost use Rattle.std.specs.Prelude.{◌≡◌, ◌≤◌, length, nat_lt};
 ghost use Rattle.planner.specs.Receipts.{covers, first_above, with_receipts, in_front, slid};
 ghost use Rattle.planner.specs.Windows.{window_of};
 
@@ -14,13 +14,20 @@ fn has_number(ranges: &[Range], n: u64) -> bool
         .any(|range| range.lower <= n && n <= range.upper)
 }
 
+// Apart from `upper_above`, so that its own contract judges it.
+fn is_above(range: Range, n: u64) -> bool
+    ensures { result ≡ nat_lt n range.upper }
+{
+    range.upper > n
+}
+
 // The first Upper above n.
 pub(super) fn upper_above(ranges: &[Range], n: u64) -> Option<u64>
     ensures { result ≡ first_above ranges.now n }
 {
     ranges
         .iter()
-        .find(|range| range.upper > n)
+        .find(|range| is_above(**range, n))
         .map(|range| range.upper)
 }
 
