@@ -12,14 +12,11 @@ number_is : (o : Destination) (l : List ℕ) → next_letter o ≡ Some l → (d
 unfolding delivers
 number_is o l e = rw e refl
 
-not_err : {A : Type 0} → ◌≡◌ {A = Result (Unit {0}) TakerRefusal} (Ok tt) (Err NoPage) → A
-not_err e = let z : ◌≡◌ {A = ℕ} 0 1 = cc in absurd (omega arith)
-
 by_page :
     (o q : Destination) (page after : Page) (n : Option ℕ) (l : List ℕ) (given : Option Page) →
     next_letter o ≡ Some l → Follows given page (Ok tt) after → delivery q n ≡ delivers o →
     handover q after (number_if (Ok n)) ≡ taken_by given o page
-by_page o q page after n l None e f d = not_err f.value
+by_page o q page after n l None e f d = cc f.value
 by_page o q page after n l (Some next) e f d =
     let number : n ≡ Some (o.delivered + 1) = ap (λ (x : Delivery). x.number) d ∙ number_is o l e in
     let office : q ≡ (delivers o).after = ap (λ (x : Delivery). x.after) d in

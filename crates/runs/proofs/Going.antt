@@ -17,7 +17,7 @@ use Rattle.protocol.proofs.Safety.{runs_are_safe}
 use Rattle.runs.specs.Calls.{call_of}
 use Rattle.runs.specs.Recorded.{Ran}
 use Rattle.runs.specs.declared.call.Call as calls
-use Rattle.runs.proofs.Joining.{joins}
+use Rattle.runs.proofs.Joining.{goes_on}
 use Rattle.taker.specs.declared.taker.Taker as taker
 use Rattle.transport.specs.declared.transport.Transport as transport
 
@@ -74,9 +74,7 @@ module _ {O B K : Type 0} (o : transport.Ghosts O) (b : transport.Ghosts B) (k :
         called = ec;
         answered = ea;
         run = r;
-        promised = λ first es f q.
-            (let whole = joins (over o b k) first (model o b k begin) (model o b k end) es made q r in
-            record { run = whole; safe = runs_are_safe (over o b k) first (model o b k end) (made ++ es) f whole });
+        promised = λ first es f q. goes_on o b k first es made begin end f q r;
         safe = λ f. runs_are_safe (over o b k) (model o b k begin) (model o b k end) made f r;
       }
 

@@ -6,12 +6,12 @@ use Rattle.answer.specs.declared.turn.TurnReport.{TurnReport}
 use Rattle.line.specs.Meaning.{over, model, Makes}
 use Rattle.line.specs.declared.line.Line as code
 use Rattle.protocol.specs.Calls.{Call, Event, event}
-use Rattle.protocol.specs.Lines.{Over, Line}
+use Rattle.protocol.specs.Lines.{Over, Line, Fresh}
 use Rattle.protocol.specs.Runs.{Run, start, more}
 use Rattle.protocol.specs.Steps.{Made}
 use Rattle.protocol.specs.Turns.{Until, enough, last, again, Turn, turn}
 use Rattle.protocol.proofs.Safety.{runs_are_safe}
-use Rattle.runs.specs.Recorded.{Continues}
+use Rattle.runs.specs.Recorded.{GoesOn, Continues}
 use Rattle.taker.specs.declared.taker.Taker as taker
 use Rattle.transport.specs.declared.transport.Transport as transport
 
@@ -50,9 +50,21 @@ turn_runs w clock told L M (turn {B = B} {C = C} {D = D} {E = E} {F = F} {d = d}
     let f = joins w L E F _ _ e r5.1 in
     (_, joins w L F M _ _ f r6.1)
 
--- a call that made its step goes on from every run, and safely
 module _ {O B K : Type 0} (o : transport.Ghosts O) (b : transport.Ghosts B) (k : taker.Ghosts K) where
+  -- calls that are a run make a safe run of every run that led to them
+  pub goes_on :
+      (first : Line) (es made : List Event) (before after : code.Line O B K) →
+      Fresh first →
+      Run (over o b k) first es (model o b k before) →
+      Run (over o b k) (model o b k before) made (model o b k after) →
+      GoesOn o b k first es made after
+  goes_on first es made before after f q r =
+      let whole = joins (over o b k) first (model o b k before) (model o b k after) es made q r in
+      record { run = whole; safe = runs_are_safe (over o b k) first (model o b k after) (made ++ es) f whole }
+
+  -- a call that made its step is such a run
   pub continues :
-      (c : Call) (a : Answer) (before after : code.Line O B K) → Makes o b k c a before after → Continues o b k c a before after
-  continues c a before after m =
-      λ first es f r. (m.got, record { run = more r m; safe = runs_are_safe (over o b k) first (model o b k after) (event c m.got a ∷ es) f (more r m) })
+      (c : Call) (a : Answer) (before after : code.Line O B K) → Makes o b k c a before after →
+      Continues o b k c a before after
+  continues c a before after m = λ first es f q.
+      (m.got, goes_on first es (event c m.got a ∷ []) before after f q (alone (over o b k) c a (model o b k before) (model o b k after) m))

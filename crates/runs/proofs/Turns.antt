@@ -1,5 +1,5 @@
 -- A turn of the code is a turn, and keeps a safe run safe.
-use Rattle.std.proofs.Common.{◌≡◌, ℕ, List, ◌++◌, sym, refl, subst, arith}
+use Rattle.std.proofs.Common.{◌≡◌, ℕ, List, sym, refl, subst, arith}
 use Rattle.answer.specs.Phases.{once}
 use Rattle.answer.specs.declared.answer.Answer.{Answer}
 use Rattle.answer.specs.declared.turn.Phase.{Phase}
@@ -11,10 +11,9 @@ use Rattle.protocol.specs.Lines.{Over, Line}
 use Rattle.protocol.specs.Runs.{Run}
 use Rattle.protocol.specs.Steps.{Made}
 use Rattle.protocol.specs.Turns.{Until, enough, last, again, Turn, turn}
-use Rattle.protocol.proofs.Safety.{runs_are_safe}
 use Rattle.protocol.proofs.Turning.{two_turns_settle}
 use Rattle.runs.specs.Turned.{Parts, StaysSafe, Turned, TurnedTwice}
-use Rattle.runs.proofs.Joining.{joins, turn_runs}
+use Rattle.runs.proofs.Joining.{goes_on, joins, turn_runs}
 use Rattle.taker.specs.declared.taker.Taker as taker
 use Rattle.transport.specs.declared.transport.Transport as transport
 
@@ -33,9 +32,7 @@ module _ {O B K : Type 0} (o : transport.Ghosts O) (b : transport.Ghosts B) (k :
   run_safe :
       (before after : code.Line O B K) (made : List Event) →
       Run (over o b k) (model o b k before) made (model o b k after) → StaysSafe o b k before after
-  run_safe before after made r first es f q =
-      let whole = joins (over o b k) first (model o b k before) (model o b k after) es made q r in
-      (made, record { run = whole; safe = runs_are_safe (over o b k) first (model o b k after) (made ++ es) f whole })
+  run_safe before after made r first es f q = (made, goes_on o b k first es made before after f q r)
 
   pub turned :
       (clock : ℕ) (told : TurnReport) (before after : code.Line O B K) →
