@@ -129,7 +129,10 @@ impl Ends {
 
     // Counts the next letter as delivered, and shows its length.
     fn deliver(&mut self, heap: Global) -> Result<String, AllocError> {
-        let len = self.office.next().map_or(0, |letter| letter.as_slice().len());
+        let len = self
+            .office
+            .next()
+            .map_or(0, |letter| letter.as_slice().len());
         match self.office.delivered() {
             Some(number) => format!(in heap; "{number} of {len} bytes"),
             None => String::from_str(heap, "nothing"),

@@ -35,5 +35,8 @@ pub fn refusal(heap: Global, why: PlannerRefusal) -> Result<String, AllocError> 
 pub fn frame_text(heap: Global, frame: &Frame) -> Result<String, AllocError> {
     let mut memory = [0; 800];
     let len = write(frame, &mut memory);
-    String::from_str(heap, std::str::from_utf8(&memory[..len]).unwrap_or("no text"))
+    String::from_str(
+        heap,
+        std::str::from_utf8(&memory[..len]).unwrap_or("no text"),
+    )
 }

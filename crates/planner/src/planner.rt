@@ -29,7 +29,7 @@ pub struct Planner {
     lowest: u64,
     // letters up to this number may be sent
     credit: u64,
-    // for the numbers from the lowest on
+    // for the numbers from the lowest on; with it no struct of their own, since the facts below tie both to `written`
     slots: [Slot; WINDOW],
     ghost whole: { length slots ≡ 8 },
     ghost limited: { written ≤ limit },
