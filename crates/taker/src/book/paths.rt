@@ -69,8 +69,17 @@ impl Paths {
         ensures value { result ≡ spot_of train section self.now.items.items }
         ensures within { IsSearchInRange result (length self.now.items.items) }
     {
-        self.items.binary_search_by_key(&(train, section), key)
+        search(&self.items, train, section)
     }
+}
+
+// The same among ascending paths.
+fn search(paths: &[Path], train: u32, section: u16) -> Result<usize, usize>
+    requires { ascending paths.now ≡ true }
+    ensures value { result ≡ spot_of train section paths.now }
+    ensures within { IsSearchInRange result (length paths.now) }
+{
+    paths.binary_search_by_key(&(train, section), key)
 }
 
 // By what paths are ordered and told apart.
