@@ -1,24 +1,28 @@
 // The bytes that a line stands for.
-use hex::FromHex;
 use std::alloc::{AllocError, Global};
 
+// By hand: any two bytes behind `\x` give a byte, and the library `hex` would refuse those that are no digits.
 pub fn unescaped(heap: Global, line: &[u8]) -> Result<Vec<u8>, AllocError> {
     let mut bytes = Vec::new(heap);
-    let mut parts = line.split(|b| *b == b'\\');
-    if let Some(plain) = parts.next() {
-        bytes.extend_from_slice(plain)?;
-    }
-    for part in parts {
-        let (byte, rest) = escape(part).unwrap_or((b'\\', part));
+    let mut rest = line;
+    while let [first, after @ ..] = rest {
+        rest = after;
+        let mut byte = *first;
+        if *first == b'\\' {
+            if let [_, high, low, behind @ ..] = after {
+                byte = nibble(*high).wrapping_mul(16).wrapping_add(nibble(*low));
+                rest = behind;
+            }
+        }
         bytes.push(byte)?;
-        bytes.extend_from_slice(rest)?;
     }
     Ok(bytes)
 }
 
-// The byte that is written behind a backslash, if one is, and what comes after it.
-fn escape(part: &[u8]) -> Option<(u8, &[u8])> {
-    let (digits, rest) = part.strip_prefix(b"x")?.split_first_chunk::<2>()?;
-    let [byte] = <[u8; 1]>::from_hex(digits.as_slice()).ok()?;
-    Some((byte, rest))
+fn nibble(digit: u8) -> u8 {
+    if digit <= b'9' {
+        digit.wrapping_sub(b'0')
+    } else {
+        digit.wrapping_sub(55)
+    }
 }
