@@ -1,34 +1,19 @@
 -- The letters in front without a gap, and what they say of being whole.
-use Rattle.std.proofs.Common.{cond, ltb, is_none, ◌≡◌, ℕ, zero, suc, ◌+◌, ◌-◌, ◌<◌, ◌≤◌, Bool, true, false, ◌&&◌, leb, List, [], ◌∷◌, length, get_or, is_some, Some, None, MatchBool, Option, sym, refl, ap, ◌∙◌, subst, inl, inr, add-one, arith}
-use Rattle.std.specs.List.{position_or_len}
-use Rattle.std.specs.Option.{unwrap_or}
-use Rattle.std.proofs.lemmas.List.Recursion.{is_position_or_len}
-use Rattle.std.proofs.lemmas.Bool.{cases_Bool, cases_lt, cond-true, cond-false, leb-true, leb-false, ltb-false}
+use Rattle.std.proofs.Common.{cond, is_none, ◌≡◌, ℕ, zero, suc, ◌+◌, ◌-◌, ◌<◌, ◌≤◌, Bool, true, false, ◌&&◌, leb, List, [], ◌∷◌, length, get_or, is_some, Some, None, MatchBool, Option, sym, refl, subst, inl, inr, add-one, arith}
+use Rattle.std.proofs.lemmas.Bool.{cases_lt, leb-true, leb-false}
 use Rattle.std.proofs.lemmas.Bool.Decides.{nat_tests}
+use Rattle.pieces.proofs.Finds.{at_most_length}
 use Rattle.office.specs.Accepted.{accepted_at, is_accepted}
 use Rattle.office.specs.Destinations.{Destination}
 use Rattle.office.specs.Wholes.{front, is_over, is_whole, Whole}
 
 module _ {A : Type 0} where
-  front_within : (ps : List (Option A)) → front ps ≤ length ps
-  front_within [] = omega arith
-  front_within (None ∷ ps) = omega arith
-  front_within (Some a ∷ ps) = let i = front_within ps in omega arith
+  pub front_next : (p : Option A) (ps : List (Option A)) → front (p ∷ ps) ≡ cond (is_none p) 0 (1 + front ps)
+  front_next None ps = refl
+  front_next (Some a) ps = omega arith
 
-  -- the first place without a letter, or the end
-  pub first_missing : (ps : List (Option A)) (o : Option ℕ)
-      → o ≡ cond (ltb (position_or_len is_none ps) (length ps)) (Some (position_or_len is_none ps)) None
-      → unwrap_or o (length ps) ≡ front ps
-  first_missing ps o e =
-      let p = is_position_or_len front is_none refl front_next ps in
-      elim (cases_Bool (ltb (position_or_len is_none ps) (length ps))) [
-        | inl l ↦ ap (λ x. unwrap_or x (length ps)) (e ∙ cond-true _ _ _ l) ∙ sym p
-        | inr l ↦ ap (λ x. unwrap_or x (length ps)) (e ∙ cond-false _ _ _ l) ∙ omega (arith, ltb-false _ _ l, p, front_within ps)
-      ]
-    where
-      front_next : (p : Option A) (ps : List (Option A)) → front (p ∷ ps) ≡ cond (is_none p) 0 (1 + front ps)
-      front_next None ps = refl
-      front_next (Some a) ps = omega arith
+  front_within : (ps : List (Option A)) → front ps ≤ length ps
+  front_within ps = at_most_length (front {A = A}) is_none refl front_next ps
 
   front_taken : (ps : List (Option A)) (k : ℕ) → k < front ps → is_some (get_or ps k None) ≡ true
   front_taken [] k h = absurd (omega arith)

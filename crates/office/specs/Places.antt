@@ -10,6 +10,7 @@ has_place d n = nat_lt d n && nat_le n (d + 8)
 abbrev pub place_of : ℕ → ℕ → ℕ
 place_of d n = n - d - 1
 
+-- the place of message number n, if it has one
 abbrev pub place_if : ℕ → ℕ → Option ℕ
 place_if d n = cond (has_place d n) (Some (place_of d n)) None
 

@@ -2,28 +2,36 @@
 use Rattle.std.specs.List.{position_or_len}
 use Rattle.std.specs.Option.{unwrap_or}
 use Rattle.std.proofs.lemmas.List.Recursion.{is_position_or_len}
-use Rattle.std.proofs.Common.{inl, inr, ltb, Some, None, Option, ◌≤◌, cond, sym, refl, ltb-false, ◌≡◌, ℕ, suc, ◌+◌, Bool, true, not, ◌&&◌, eqb, List, [], ◌∷◌, ◌++◌, length, ap, ◌∙◌, arith}
+use Rattle.std.proofs.Common.{inl, inr, ltb, Some, None, Option, ◌≤◌, cond, sym, ltb-false, ◌≡◌, ℕ, suc, ◌+◌, Bool, true, not, ◌&&◌, eqb, List, [], ◌∷◌, ◌++◌, length, ap, ◌∙◌, arith}
 use borrow.Author.Tests.{not-true}
 use Rattle.std.proofs.lemmas.Bool.{and_parts, and_from, cond-true, cond-false, cases_Bool}
 use Rattle.pieces.specs.Cuts.{before}
 
-before_bound : (b : ℕ) (bs : List ℕ) → before b bs ≤ length bs
-before_bound b [] = omega arith
-before_bound b (c ∷ cs) = elim (cases_Bool (eqb c b)) [
-  | inl e ↦ omega (arith, cond-true {A = ℕ} _ 0 (suc (before b cs)) e)
-  | inr e ↦ omega (arith, cond-false {A = ℕ} _ 0 (suc (before b cs)) e, before_bound b cs)
-]
+-- A function that goes through a list as `position` does: the place where a test passes first, or else the length.
+module _ {X : Type 0} (F : List X → ℕ) (test : X → Bool)
+    (none : F [] ≡ 0)
+    (some : (x : X) (xs : List X) → F (x ∷ xs) ≡ cond (test x) 0 (1 + F xs)) where
+  pub at_most_length : (xs : List X) → F xs ≤ length xs
+  at_most_length [] = omega (arith, none)
+  at_most_length (x ∷ xs) = elim (cases_Bool (test x)) [
+    | inl e ↦ omega (arith, some x xs ∙ cond-true _ _ _ e)
+    | inr e ↦ omega (arith, some x xs ∙ cond-false _ _ _ e, at_most_length xs)
+  ]
 
--- the first place where b stands, or the end
-pub first_or_end : (b : ℕ) (bs : List ℕ) (o : Option ℕ) →
-    o ≡ cond (ltb (position_or_len (λ x. eqb x b) bs) (length bs)) (Some (position_or_len (λ x. eqb x b) bs)) None →
-    unwrap_or o (length bs) ≡ before b bs
-first_or_end b bs o e =
-    let p = is_position_or_len (before b) (λ x. eqb x b) refl (λ x xs. ap (cond (eqb x b) 0) (omega arith)) bs in
-    elim (cases_Bool (ltb (position_or_len (λ x. eqb x b) bs) (length bs))) [
-      | inl l ↦ ap (λ x. unwrap_or x (length bs)) (e ∙ cond-true _ _ _ l) ∙ sym p
-      | inr l ↦ ap (λ x. unwrap_or x (length bs)) (e ∙ cond-false _ _ _ l) ∙ omega (arith, ltb-false _ _ l, p, before_bound b bs)
-    ]
+  -- what `position` answers, with the length for none, is that place
+  pub first_or_length : (xs : List X) (o : Option ℕ)
+      → o ≡ cond (ltb (position_or_len test xs) (length xs)) (Some (position_or_len test xs)) None
+      → unwrap_or o (length xs) ≡ F xs
+  first_or_length xs o e =
+      let p = is_position_or_len F test none some xs in
+      elim (cases_Bool (ltb (position_or_len test xs) (length xs))) [
+        | inl l ↦ ap (λ x. unwrap_or x (length xs)) (e ∙ cond-true _ _ _ l) ∙ sym p
+        | inr l ↦ ap (λ x. unwrap_or x (length xs)) (e ∙ cond-false _ _ _ l) ∙ omega (arith, ltb-false _ _ l, p, at_most_length xs)
+      ]
+
+-- `before` goes through a list so
+pub before_next : (b c : ℕ) (cs : List ℕ) → before b (c ∷ cs) ≡ cond (eqb c b) 0 (1 + before b cs)
+before_next b c cs = ap (cond (eqb c b) 0) (omega arith)
 
 -- behind bytes among which it is not
 abbrev pub without : ℕ → List ℕ → Bool
