@@ -35,12 +35,20 @@ pub next_push : (low : ℕ) (xs : List Range) (x : Range) → next_low low (xs +
 next_push low [] x = refl
 next_push low (y ∷ xs) x = next_push (y.upper + 2) xs x
 
+high_push : (low : ℕ) (xs : List Range) (x : Range) → ascending low (xs ++ (x ∷ [])) ≡ true → x.upper ≤ M
+high_push low [] x a = (starts low x (and_parts (starts_at low x) true a).0).high
+high_push low (y ∷ xs) x a =
+    high_push (y.upper + 2) xs x (and_parts (starts_at low y) (ascending (y.upper + 2) (xs ++ (x ∷ []))) a).1
+
 -- some ranges, by the last of them
 module _ (xs : List Range) (d : Range) (some : 0 < length xs) where
   last_of : xs ≡ take (length xs - 1) xs ++ (get_or xs (length xs - 1) d ∷ [])
   last_of =
       let i : length xs ≡ (length xs - 1) + 1 = omega arith in
       sym (take-length xs) ∙ (ap (λ k. take k xs) i ∙ take_more xs (length xs - 1) d (omega arith))
+
+  pub last_high : ascending 1 xs ≡ true → (get_or xs (length xs - 1) d).upper ≤ M
+  last_high a = high_push 1 (take (length xs - 1) xs) (get_or xs (length xs - 1) d) (ap (ascending 1) (sym last_of) ∙ a)
 
   pub last_next : (get_or xs (length xs - 1) d).upper + 2 ≡ next_low 1 xs
   last_next = sym (ap (next_low 1) last_of ∙ next_push 1 (take (length xs - 1) xs) (get_or xs (length xs - 1) d))

@@ -1,12 +1,10 @@
 -- A letter that the taker took counts as delivered.
-use Rattle.std.proofs.Common.{◌≡◌, ℕ, ◌+◌, List, Some, None, Ok, Err, Option, Result, sym, refl, ap, ◌∙◌, arith}
+use Rattle.std.proofs.Common.{◌≡◌, ℕ, ◌+◌, List, Some, None, Ok, Option, sym, refl, ap, ◌∙◌}
 use Rattle.line.specs.Answers.{number_if}
 use Rattle.office.specs.Deliveries.{Delivery, delivery, delivers, next_letter}
 use Rattle.office.specs.Destinations.{Destination}
 use Rattle.protocol.specs.Steps.{handover, taken_by, hands_first, hands}
 use Rattle.taker.specs.Steps.{Page, Step, Follows}
-use Rattle.taker.specs.declared.refusal.TakerRefusal.{TakerRefusal}
-use Rattle.taker.specs.declared.refusal.TakerRefusal.TheVariants.{NoPage}
 
 number_is : (o : Destination) (l : List ℕ) → next_letter o ≡ Some l → (delivers o).number ≡ Some (o.delivered + 1)
 unfolding delivers

@@ -1,6 +1,7 @@
 pub mod Options
 pub mod Finds
 pub mod Strips
+pub mod Decimals
 pub mod Numbers
 pub mod Readings
 pub mod Attributes

@@ -1,16 +1,11 @@
 -- What is read as a number is the decimal text of that number, and the other way round.
-use Rattle.std.specs.Result.{OkIff, result_ok}
-use Rattle.std.specs.Str.{IsAscii, IsUtf8}
-use Rattle.std.specs.Str.Parse.{ParsesUnsigned}
-use Rattle.std.proofs.lemmas.List.{get_or_past}
-use Rattle.std.proofs.lemmas.Str.{IsUtf8-from_ascii}
-use Rattle.std.proofs.Common.{zero, suc, length, get_or, leb, leb-true, None, Ok, Err, Result, inl, inr, ◌≡◌, ℕ, ◌+◌, ◌-◌, ◌*◌, ◌^◌, ◌<◌, ◌≤◌, Bool, true, ◌&&◌, eqb, ltb, List, [], ◌∷◌, Some, decimal, sym, refl, ap, ◌∙◌, arith, rules, ltb-true, lt-ltb, ne_eqb}
+use Rattle.std.proofs.Common.{◌≡◌, ℕ, ◌+◌, ◌-◌, ◌*◌, ◌^◌, ◌<◌, ◌≤◌, Bool, true, ◌&&◌, eqb, ltb, List, [], ◌∷◌, Some, decimal, sym, refl, ap, ◌∙◌, arith, rules, ltb-true, lt-ltb, ne_eqb}
 use Rattle.std.proofs.lemmas.Fmt.{decimal-digits_value, digits_decimal, digits_value-decimal, first_decimal}
-use Rattle.std.proofs.lemmas.Str.Parse.{IsNumeralModel, numerals_by_fold, parse_plain}
-use Rattle.std.proofs.lemmas.Bool.{cases_lt, cond-true, and_parts, and_from, not_from_false}
+use Rattle.std.proofs.lemmas.Str.Parse.{IsNumeralModel, numerals_by_fold}
+use Rattle.std.proofs.lemmas.Bool.{cond-true, and_parts, and_from, not_from_false}
 use Rattle.pieces.specs.Numbers.{read_on, plain, digit}
 use Rattle.pieces.proofs.Finds.{without}
-use Rattle.pieces.proofs.Options.{cases_option, some_cond}
+use Rattle.pieces.proofs.Options.{some_cond}
 
 abbrev all_digits : List ℕ → Bool
 all_digits [] = true
@@ -50,41 +45,6 @@ is_read a (c ∷ cs) d h =
     let q = and_parts (digit c) (all_digits cs) d in
     let l : ltb (a * 10 + (c - 48)) (2 ^ 64) ≡ true = lt-ltb _ _ (omega (arith, fold_ge (a * 10 + (c - 48)) cs)) in
     cond-true _ _ _ (and_from (digit c) (ltb (a * 10 + (c - 48)) (2 ^ 64)) q.0 l) ∙ is_read (a * 10 + (c - 48)) cs q.1 h
-
--- digits are text
-ascii : (cs : List ℕ) → all_digits cs ≡ true → IsAscii cs
-ascii [] d i = omega (arith, get_or_past {X = ℕ} [] i 0 (omega arith))
-ascii (c ∷ cs) d zero = omega (arith, leb-true c 57 (and_parts (leb 48 c) (leb c 57) (and_parts (digit c) (all_digits cs) d).0).1)
-ascii (c ∷ cs) d (suc i) = ascii cs (and_parts (digit c) (all_digits cs) d).1 i
-
--- what is no text is no number
-pub no_text : (ds : List ℕ) → (IsUtf8 ds → ⊥) → read_on 0 ds ≡ None
-no_text ds h =
-    elim (cases_option (read_on 0 ds)) [
-      | inl e ↦ e
-      | inr s ↦ absurd (h (IsUtf8-from_ascii ds (ascii ds (read_is 0 s.0 ds s.1).digits)))
-    ]
-
--- the library's parsing reads the same digits
-read_parsed : {E : Type 0} (ds : List ℕ) (r : Result ℕ E) → 0 < length ds
-    → OkIff r ((all_digits ds ≡ true) × (0 < length ds) × (fold 0 ds < 2 ^ 64)) (fold 0 ds)
-    → result_ok r ≡ read_on 0 ds
-read_parsed ds (Ok x) s h = ap Some h.1 ∙ sym (is_read 0 ds h.0.0 h.0.2)
-read_parsed ds (Err e) s h =
-    elim (cases_option (read_on 0 ds)) [
-      | inl e ↦ sym e
-      | inr n ↦
-          let r = read_is 0 n.0 ds n.1 in
-          absurd (h (r.digits, s, omega (arith, r.value, r.small (omega arith))))
-    ]
-
-pub parsed : {E : Type 0} (ds : List ℕ) (r : Result ℕ E) → ParsesUnsigned 64 10 ds r → 48 < get_or ds 0 0 → result_ok r ≡ read_on 0 ds
-parsed ds r h s =
-    let some : 0 < length ds = elim (cases_lt 0 (length ds)) [
-      | inl l ↦ l
-      | inr l ↦ absurd (omega (arith, get_or_past ds 0 0 l))
-    ] in
-    read_parsed ds r some (parse_plain own 64 ds r h (λ e. omega (arith, e)))
 
 pub record Numeral (n : ℕ) (ds : List ℕ) : Type 0 where
   pub spelt : ds ≡ decimal n

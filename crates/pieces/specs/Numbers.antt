@@ -4,6 +4,10 @@ use Rattle.std.specs.Prelude.{ℕ, ◌+◌, ◌-◌, ◌*◌, ◌^◌, Bool, con
 abbrev pub digit : ℕ → Bool
 digit c = nat_le 48 c && nat_le c 57
 
+-- the number with the digit c behind it, if it fits 64 bits
+abbrev pub more : ℕ → ℕ → Option ℕ
+more n c = cond (digit c && nat_lt (n * 10 + (c - 48)) (2 ^ 64)) (Some (n * 10 + (c - 48))) None
+
 -- the number that the digits write behind those of n
 abbrev pub read_on : ℕ → List ℕ → Option ℕ
 read_on n [] = Some n

@@ -18,7 +18,9 @@ pub(crate) fn find(bytes: &[u8], b: u8) -> usize
 pub(crate) fn strip<'a>(part: &'a [u8], beginning: &[u8]) -> Option<&'a [u8]>
     ensures { option_map (λ x. x.now) result ≡ strip_of beginning.now part.now }
 {
-    part.strip_prefix(beginning)
+    let (front, rest) = part.split_at_checked(beginning.len())?;
+    // Compared as slices are: the library's `strip_prefix` goes byte by byte.
+    (front == beginning).then_some(rest)
 }
 
 // Whether the part is these three, one after another.

@@ -1,7 +1,6 @@
-ghost use Rattle.std.specs.Prelude.{◌≡◌, false, Err, MatchResult};
+ghost use Rattle.std.specs.Prelude.{◌≡◌};
 ghost use Rattle.transport.specs.Calls.{is_frame, get_answer, get_memory};
 ghost use Rattle.transport.specs.Meaning.{Sized};
-ghost use Rattle.transport.specs.declared.refusal.TransportRefusal.TheVariants.{FrameSize};
 
 use crate::refusal::TransportRefusal;
 use arrayvec::ArrayVec;
@@ -16,23 +15,25 @@ pub(crate) struct Kept {
     ghost sized: { Sized bytes.items },
 }
 
-impl TryFrom<&[u8]> for Kept {
-    type Error = TransportRefusal;
-
-    ghost try_from_gives = { λ bytes r. MatchResult r
-        (λ k. (k.bytes.items ≡ bytes.now) × Sized bytes.now)
-        (λ e. (e ≡ FrameSize) × (is_frame bytes.now ≡ false)) };
-
-    fn try_from(bytes: &[u8]) -> Result<Kept, TransportRefusal> {
-        match ArrayVec::try_from(bytes) {
-            Ok(bytes) if !bytes.is_empty() => Ok(Kept { bytes }),
-            _ => Err(TransportRefusal::FrameSize),
-        }
-    }
+// Whether these bytes may be a frame.
+pub(crate) fn is_frame(bytes: &[u8]) -> bool
+    ensures { result ≡ is_frame bytes.now }
+{
+    (1..=FRAME_MOST).contains(&bytes.len())
 }
 
 impl Kept {
     ghost use Rattle.transport.specs.Stored.{handed};
+
+    // The frame, copied.
+    pub(crate) fn new(frame: &[u8]) -> Kept
+        requires { Sized frame.now }
+        ensures { result.bytes.items ≡ frame.now }
+    {
+        let mut bytes = ArrayVec::new();
+        bytes.try_extend_from_slice(frame).unwrap();
+        Kept { bytes }
+    }
 
     // Copies this frame, if any, to the front of the memory, and answers its length.
     pub(crate) fn hand_out(

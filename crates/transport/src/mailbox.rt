@@ -1,4 +1,4 @@
-ghost use Rattle.std.specs.Prelude.{◌≡◌};
+ghost use Rattle.std.specs.Prelude.{◌≡◌, ◌≤◌, length};
 
 use crate::kept::Kept;
 use circular_buffer::HeapCircularBuffer;
@@ -10,4 +10,5 @@ mod calls;
 pub struct Mailbox {
     frames: HeapCircularBuffer<Kept>,
     ghost whole: { frames.capacity ≡ 32 },
+    ghost few: { length frames.items ≤ 32 },
 }

@@ -4,7 +4,7 @@ ghost use Rattle.transport.specs.Calls.{put_answer, get_answer, get_memory};
 ghost use Rattle.transport.specs.HeldSized.{held_sized};
 
 use super::Bag;
-use crate::kept::Kept;
+use crate::kept::{Kept, is_frame};
 use crate::refusal::TransportRefusal;
 use crate::transport::Transport;
 use circular_buffer::HeapCircularBuffer;
@@ -45,8 +45,11 @@ impl Transport for Bag {
             bag_put (in_bag self.old) frame.now }
         ensures takes { takes_next self.new ≡ takes_next self.old }
     {
+        if !is_frame(frame) {
+            return Err(TransportRefusal::FrameSize);
+        }
         // Where 8 wait the oldest gives way.
-        self.frames.push_back(Kept::try_from(frame)?);
+        self.frames.push_back(Kept::new(frame));
         Ok(())
     }
 

@@ -4,7 +4,7 @@ ghost use Rattle.transport.specs.Mailbox.{in_mailbox, oldest, mailbox_put, mailb
 ghost use Rattle.transport.specs.HeldSized.{held_sized};
 
 use super::Mailbox;
-use crate::kept::Kept;
+use crate::kept::{Kept, is_frame};
 use crate::refusal::TransportRefusal;
 use crate::transport::Transport;
 use circular_buffer::HeapCircularBuffer;
@@ -41,8 +41,13 @@ impl Transport for Mailbox {
         ensures waiting { in_mailbox self.new ≡
             mailbox_put (in_mailbox self.old) frame.now }
     {
+        if !is_frame(frame) {
+            return Err(TransportRefusal::FrameSize);
+        }
         // Where 32 wait there is no room, and the frame is lost.
-        let _lost = self.frames.try_push_back(Kept::try_from(frame)?);
+        if !self.frames.is_full() {
+            self.frames.push_back(Kept::new(frame));
+        }
         Ok(())
     }
 
